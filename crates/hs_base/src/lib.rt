@@ -29,7 +29,7 @@ pub use history::{Deed, Entry, Phase};
 pub use ids::{PointId, SvId, ValId, WordId};
 pub use kernel::Core;
 pub use limits::{
-    ANSWERS, ANSWER_CLAUSES, CHOICES, FREE_POINTS, GOALS, HORIZONS, LAST, LAST_HORIZON, NAME_BYTES,
+    ANSWER_CLAUSES, ANSWERS, CHOICES, FREE_POINTS, GOALS, HORIZONS, LAST, LAST_HORIZON, NAME_BYTES,
     NEEDS, NEW_TOKENS, SCRIPT_STEPS, TEXT_BYTES, VALUES, VARIABLES,
 };
 pub use list::List;
