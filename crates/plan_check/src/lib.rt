@@ -2,7 +2,9 @@
 #![tactic(auto)]
 
 mod checked_plan;
+mod lines;
 mod snapshot;
 
 pub use checked_plan::CheckedPlan;
+pub use lines::Timelines;
 pub use snapshot::Snapshot;
