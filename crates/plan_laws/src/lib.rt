@@ -1,9 +1,11 @@
 //! Laws of plans and of the schedule machine, over the definitions alone.
 #![tactic(auto)]
 
+mod runs;
 mod samples;
 mod schedules;
 
+pub use runs::{each_point_is_executed_once, some_schedule_fits};
 pub use samples::{
     the_camera_mission_is_one, the_camera_plan_has_a_schedule, the_camera_run_has_its_state,
     the_smallest_mission_is_one, the_smallest_plan_has_a_schedule,
