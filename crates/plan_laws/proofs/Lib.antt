@@ -1,0 +1,5 @@
+pub mod ListLemmas
+pub mod ScheduleLemmas
+pub mod PlanLemmas
+pub mod StateLemmas
+pub mod RunLemmas
