@@ -1,0 +1,5 @@
+pub mod Broken
+pub mod Causes
+pub mod Cycles
+pub mod Ranges
+pub mod Rows
