@@ -3,6 +3,8 @@
 
 mod broken;
 mod column;
+mod dist;
+mod folding;
 mod lowering;
 mod nearest;
 mod rows;
@@ -10,4 +12,5 @@ mod search;
 mod trace;
 
 pub use broken::Broken;
+pub use dist::Dist;
 pub use search::{POINTS, solve, solve_from};
