@@ -1,4 +1,3 @@
-pub mod ListLemmas
 pub mod ScheduleLemmas
 pub mod PlanLemmas
 pub mod StateLemmas

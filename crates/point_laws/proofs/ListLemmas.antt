@@ -56,3 +56,12 @@ slice_get-append_left (x ∷ xs) ys (suc i) h = slice_get-append_left xs ys i (o
 pub slice_get-middle : {X : Type 0} (xs : List X) (x : X) (ys : List X) → slice_get (xs ++ x ∷ ys) (length xs) ≡ Some x
 slice_get-middle [] x ys = refl
 slice_get-middle (y ∷ xs) x ys = slice_get-middle xs x ys
+
+-- what holds of each element, where each is nothing to show
+pub each_trivial : {X : Type 0} (P : List X → X → Type 0) → ((before : List X) (x : X) → P before x) → (before xs : List X) → EachAfter P before xs
+each_trivial P all before [] = tt
+each_trivial P all before (x ∷ xs) = (all before x, each_trivial P all (before ++ x ∷ []) xs)
+
+-- induction along any list, from its front
+pub front_induction : {X : Type 0} (P : List X → Type 0) → P [] → ((before : List X) (x : X) → P before → P (before ++ x ∷ [])) → (xs : List X) → P xs
+front_induction {X} P first step xs = snoc_induction P (λ (b : List X) (x : X). Unit {0}) (λ b x r. step b x) [] xs first (each_trivial (λ (b : List X) (x : X). Unit {0}) (λ b x. tt) [] xs)
