@@ -1,5 +1,5 @@
 -- Laws of the walks, and of what holds of each element.
-use Rattle.std.proofs.Common.{◌≡◌, ℕ, zero, suc, ◌<◌, List, [], ◌∷◌, ◌++◌, length, Some, refl, sym, subst, arith, append_assoc, append-nil}
+use Rattle.std.proofs.Common.{◌≡◌, ℕ, zero, suc, ◌+◌, ◌<◌, List, [], ◌∷◌, ◌++◌, length, take, drop, Some, refl, sym, ap, ◌∙◌, subst, arith, append_assoc, append-nil}
 use Rattle.std.specs.Prelude.{slice_get, flat_map}
 use Rattle.std.specs.List.{AllByRecursion}
 use Rattle.hs_base.specs.Walks.{join_after, EachAfter}
@@ -52,6 +52,13 @@ slice_get-append_left [] ys i h = absurd (omega arith)
 slice_get-append_left (x ∷ xs) ys zero h = refl
 slice_get-append_left (x ∷ xs) ys (suc i) h = slice_get-append_left xs ys i (omega arith)
 
+-- a place in the second part
+pub slice_get-append_right : {X : Type 0} (xs ys : List X) (i : ℕ) → slice_get (xs ++ ys) (length xs + i) ≡ slice_get ys i
+slice_get-append_right [] ys i = let e : 0 + i ≡ i = omega arith in ap (slice_get ys) e
+slice_get-append_right (x ∷ xs) ys i =
+    let e : suc (length xs) + i ≡ suc (length xs + i) = omega arith in
+    ap (slice_get (x ∷ (xs ++ ys))) e ∙ slice_get-append_right xs ys i
+
 -- the first element of the second part
 pub slice_get-middle : {X : Type 0} (xs : List X) (x : X) (ys : List X) → slice_get (xs ++ x ∷ ys) (length xs) ≡ Some x
 slice_get-middle [] x ys = refl
@@ -65,3 +72,25 @@ each_trivial P all before (x ∷ xs) = (all before x, each_trivial P all (before
 -- induction along any list, from its front
 pub front_induction : {X : Type 0} (P : List X → Type 0) → P [] → ((before : List X) (x : X) → P before → P (before ++ x ∷ [])) → (xs : List X) → P xs
 front_induction {X} P first step xs = snoc_induction P (λ (b : List X) (x : X). Unit {0}) (λ b x r. step b x) [] xs first (each_trivial (λ (b : List X) (x : X). Unit {0}) (λ b x. tt) [] xs)
+
+-- what comes of two lists, one after the other
+pub join_after-append : {X Y : Type 0} (f : List X → X → List Y) (before xs ys : List X) → join_after f before (xs ++ ys) ≡ join_after f before xs ++ join_after f (before ++ xs) ys
+join_after-append f before [] ys = ap (λ b. join_after f b ys) (sym (append-nil before))
+join_after-append f before (x ∷ xs) ys =
+    ap (λ l. f before x ++ l) (join_after-append f (before ++ x ∷ []) xs ys)
+    ∙ sym (append_assoc (f before x) (join_after f (before ++ x ∷ []) xs) (join_after f ((before ++ x ∷ []) ++ xs) ys))
+    ∙ ap (λ b. (f before x ++ join_after f (before ++ x ∷ []) xs) ++ join_after f b ys) (append_assoc before (x ∷ []) xs)
+
+-- where each element gives one, the one at a place
+pub join_after-at : {X Y : Type 0} (f : List X → X → Y) (before xs : List X) (i : ℕ) (x : X) → slice_get xs i ≡ Some x → slice_get (join_after (λ b y. f b y ∷ []) before xs) i ≡ Some (f (before ++ take i xs) x)
+join_after-at f before [] i x is = absurd (cc)
+join_after-at f before (y ∷ xs) zero x is =
+    let same : y ≡ x = cc in
+    ap (λ z. Some (f before z)) same ∙ ap (λ b. Some (f b x)) (sym (append-nil before))
+join_after-at f before (y ∷ xs) (suc i) x is = join_after-at f (before ++ y ∷ []) xs i x is ∙ ap (λ b. Some (f b x)) (append_assoc before (y ∷ []) (take i xs))
+
+-- an element at a place stands between those before and behind it
+pub slice_get-split : {X : Type 0} (xs : List X) (i : ℕ) (x : X) → slice_get xs i ≡ Some x → xs ≡ take i xs ++ x ∷ drop (suc i) xs
+slice_get-split [] i x is = absurd (cc)
+slice_get-split (y ∷ xs) zero x is = let same : y ≡ x = cc in ap (λ z. z ∷ xs) same
+slice_get-split (y ∷ xs) (suc i) x is = ap (λ l. y ∷ l) (slice_get-split xs i x is)

@@ -1,17 +1,18 @@
 -- The points of a plan have names of their own, and keep their numbers.
-use Rattle.std.proofs.Common.{◌≡◌, ℕ, zero, suc, ◌+◌, ◌<◌, ◌≤◌, true, false, nat_eq, List, [], ◌∷◌, ◌++◌, length, map, Some, refl, sym, ap, ◌∙◌, subst, arith, append_assoc, append-nil, inl, inr, length-append}
+use Rattle.std.proofs.Common.{◌≡◌, ℕ, zero, suc, ◌+◌, ◌<◌, ◌≤◌, true, false, nat_eq, List, [], ◌∷◌, ◌++◌, length, map, take, Some, refl, sym, ap, ◌∙◌, subst, arith, append_assoc, append-nil, inl, inr, length-append}
 use Rattle.std.proofs.lemmas.Grind.{common_steps, flat_map-append}
 use Rattle.std.proofs.lemmas.Bool.{cases_Bool, cases_lt, cases_eq, eqb-true, eq-eqb}
 use Rattle.std.proofs.lemmas.Bool.Decides.{nat_tests}
 use Rattle.std.proofs.lemmas.List.{map_push}
 use Rattle.std.proofs.lemmas.List.Elements.{filter-append, filter_passes, recursion_from_All}
-use Rattle.std.proofs.lemmas.Option.{slice_get_within}
-use Rattle.std.specs.Prelude.{slice_get}
+use Rattle.std.proofs.lemmas.Option.{slice_get_within, slice_get-map}
+use Rattle.std.specs.Prelude.{slice_get, option_map}
 use Rattle.hs_base.specs.declared.mission.Kind.{Kind}
 use Rattle.hs_base.specs.declared.plan.TokenRef.{TokenRef}
 use Rattle.hs_base.specs.declared.plan.Extension.{Extension}
+use Rattle.hs_base.specs.Walks.{join_after}
 use Rattle.hs_base.specs.Points.{Point, origin, horizon, ending, same_point, tokens_of, timeline_of, ref_after, refs_after, new_points, points_of, count, place_of, start_at, hor}
-use Rattle.point_laws.proofs.ListLemmas.{front_induction, join_after-push, each_at, slice_get-append_left, slice_get-middle}
+use Rattle.point_laws.proofs.ListLemmas.{front_induction, join_after-push, join_after-append, join_after-at, each_at, slice_get-append_left, slice_get-append_right, slice_get-middle}
 
 pub same_point_refl : (p : Point) → same_point p p ≡ true
 same_point_refl origin = refl
@@ -243,3 +244,33 @@ horizon_number before e =
 -- a horizon point keeps its number
 pub horizon_kept : (before : List Extension) (e : Extension) (j : ℕ) → 0 < j → j ≤ length before → hor (before ++ e ∷ []) j ≡ hor before j
 horizon_kept before e j some below = ap (place_of (horizon j)) (points-push before e) ∙ place_kept (horizon j) (points_of before) (new_points before e) ((named before).marks_there j some below)
+
+-- a point keeps its number where the plan grows
+pub point_kept : (es fs : List Extension) (p : Point) → place_of p (points_of es) < count es → place_of p (points_of (es ++ fs)) ≡ place_of p (points_of es)
+point_kept es fs p there = ap (λ l. place_of p (origin ∷ l)) (join_after-append new_points [] es fs) ∙ place_kept p (points_of es) (join_after new_points es fs) there
+
+-- a point at a number stays there where the plan grows
+pub number_kept : (es fs : List Extension) (x : ℕ) → x < count es → slice_get (points_of (es ++ fs)) x ≡ slice_get (points_of es) x
+number_kept es fs x below = ap (λ l. slice_get (origin ∷ l) x) (join_after-append new_points [] es fs) ∙ slice_get-append_left (points_of es) (join_after new_points es fs) x below
+
+-- the point of a new token's end
+pub new_end_at : (before : List Extension) (e : Extension) (i : ℕ) (k : Kind) → slice_get e.tokens i ≡ Some k → slice_get (points_of (before ++ e ∷ [])) (count before + 1 + i) ≡ Some (end_point (ref_after (tokens_of before ++ take i e.tokens) k))
+new_end_at before e i k is =
+    let names = points_of before ++ horizon (length before + 1) ∷ [] in
+    let size : length names ≡ count before + 1 = length-append (points_of before) (horizon (length before + 1) ∷ []) in
+    let ref : slice_get (refs_after (tokens_of before) e.tokens) i ≡ Some (ref_after (tokens_of before ++ take i e.tokens) k) = join_after-at ref_after (tokens_of before) e.tokens i k is in
+    ap (λ l. slice_get l (count before + 1 + i)) (points_parts before e)
+    ∙ ap (λ n. slice_get (names ++ end_points (tokens_of before) e.tokens) (n + i)) (sym size)
+    ∙ slice_get-append_right names (end_points (tokens_of before) e.tokens) i
+    ∙ slice_get-map end_point (refs_after (tokens_of before) e.tokens) i
+    ∙ ap (option_map end_point) ref
+
+-- the point of a new extension's horizon
+pub new_mark_at : (before : List Extension) (e : Extension) → slice_get (points_of (before ++ e ∷ [])) (count before) ≡ Some (horizon (length before + 1))
+new_mark_at before e = ap (λ l. slice_get l (count before)) (points-push before e) ∙ slice_get-middle (points_of before) (horizon (length before + 1)) (end_points (tokens_of before) e.tokens)
+
+-- the token of a name
+pub token_of_ref : (before after : List Kind) (k : Kind) → slice_get (timeline_of (before ++ k ∷ after) k.sv.0) (length (timeline_of before k.sv.0)) ≡ Some k
+token_of_ref before after k =
+    ap (λ l. slice_get l (length (timeline_of before k.sv.0))) (timeline-append before (k ∷ after) k.sv.0)
+    ∙ (rw (eq-eqb k.sv.0 k.sv.0 refl) (slice_get-middle (timeline_of before k.sv.0) k (timeline_of after k.sv.0)))

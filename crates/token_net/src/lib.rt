@@ -1,0 +1,6 @@
+//! The points of a plan and the bounds between them.
+#![tactic(auto)]
+
+mod numbers;
+
+pub use numbers::{end_of, horizon_point, observed, points, start_of};
