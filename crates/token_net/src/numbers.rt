@@ -2,7 +2,8 @@ ghost use Rattle.std.specs.Prelude.{◌≡◌, ◌+◌, ◌<◌, ◌≤◌, ◌^
 ghost use Rattle.hs_base.specs.Points.{count, points_of, place_of, ending, start, stop, hor, is_observed, timeline_of, value_of};
 ghost use Rattle.token_net.specs.Ends.{kind_ending, IsNth};
 
-use hs_base::{Extension, Kind, Mission, Plan, PointId, SvId, TokenRef, Value};
+use crate::lookups::value_at;
+use hs_base::{Extension, Kind, Mission, Plan, PointId, SvId, TokenRef};
 
 /// The number of points of a plan: Z, a horizon point for each extension, and the end of each
 /// token.
@@ -124,14 +125,6 @@ fn kind_at(extensions: &[Extension], point: PointId) -> Option<Kind>
         points += tokens.len() as u32;
     }
     None
-}
-
-/// A value of the mission.
-pub(crate) fn value_at(mission: &Mission, kind: Kind) -> Option<&Value>
-    ensures { option_copied result ≡ value_of mission.now kind }
-{
-    let var = mission.vars.as_slice().get(kind.sv.0 as usize)?;
-    var.values.as_slice().get(kind.value.0 as usize)
 }
 
 /// Whether the point is observed: a device ends its token, and tells it.
