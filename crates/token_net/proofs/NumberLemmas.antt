@@ -8,8 +8,8 @@ use Rattle.hs_base.specs.declared.mission.Kind.{Kind}
 use Rattle.hs_base.specs.declared.plan.Extension.{Extension}
 use Rattle.hs_base.specs.Points.{ending, horizon, count, points_of, hor, place_of, tokens_of, timeline_of, ref_after}
 use Rattle.token_net.specs.Ends.{kind_ending, IsNth}
-use Rattle.point_laws.proofs.ListLemmas.{front_induction, slice_get-split}
-use Rattle.point_laws.proofs.PointLemmas.{named, end_point, count-push, tokens-push, timeline-append, new_end_at, new_mark_at, number_kept, token_of_ref}
+use Rattle.base_laws.proofs.ListLemmas.{front_induction, slice_get-split}
+use Rattle.base_laws.proofs.PointLemmas.{named, end_point, count-push, tokens-push, timeline-append, new_end_at, new_mark_at, number_kept, token_of_ref}
 
 -- an extension stands between those before it and those behind it
 pub split_at : (es : List Extension) (i : ℕ) (e : Extension) → i < length es → e ≡ get_or es i e → es ≡ (take i es ++ e ∷ []) ++ drop (i + 1) es

@@ -51,6 +51,7 @@ pub(crate) fn add_points(made: &mut List<Bound>, first: u32, points: u32) -> Res
 }
 
 /// A new token lasts as long as its value may.
+#[tactic(auto, using(base_laws::proofs::MissionLemmas::lasts_low))]
 fn add_length(
     made: &mut List<Bound>,
     mission: &Mission,
@@ -133,6 +134,7 @@ pub(crate) fn add_lasts(
 }
 
 /// A support keeps the relation of the choice that its token is for.
+#[tactic(auto, using(base_laws::proofs::MissionLemmas::choice_ranges))]
 fn add_support(
     made: &mut List<Bound>,
     mission: &Mission,
@@ -195,6 +197,7 @@ fn add_goal(
 }
 
 /// The goals' tokens start and stop in the goals' ranges.
+#[tactic(auto, using(crate::proofs::ItemLemmas::goals_more, crate::proofs::ItemLemmas::goals_all))]
 pub(crate) fn add_goals(
     made: &mut List<Bound>,
     table: &Table,

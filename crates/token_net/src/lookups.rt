@@ -20,6 +20,7 @@ pub(crate) fn need_at(mission: &Mission, kind: Kind, number: u32) -> Option<&Nee
 }
 
 /// The need of that number among these.
+#[tactic(auto, using(crate::proofs::ItemLemmas::filter_at))]
 fn need_among(needs: &[Need], kind: Kind, number: u32) -> Option<&Need>
     ensures { option_copied result ≡ slice_get (filter (λ n. same_kind n.of kind) needs.now) number }
 {

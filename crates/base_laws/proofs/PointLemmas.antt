@@ -12,7 +12,7 @@ use Rattle.hs_base.specs.declared.plan.TokenRef.{TokenRef}
 use Rattle.hs_base.specs.declared.plan.Extension.{Extension}
 use Rattle.hs_base.specs.Walks.{join_after}
 use Rattle.hs_base.specs.Points.{Point, origin, horizon, ending, same_point, tokens_of, timeline_of, ref_after, refs_after, new_points, points_of, count, place_of, start_at, hor}
-use Rattle.point_laws.proofs.ListLemmas.{front_induction, join_after-push, join_after-append, join_after-at, each_at, slice_get-append_left, slice_get-append_right, slice_get-middle}
+use Rattle.base_laws.proofs.ListLemmas.{front_induction, join_after-push, join_after-append, join_after-at, each_at, slice_get-append_left, slice_get-append_right, slice_get-middle}
 
 pub same_point_refl : (p : Point) → same_point p p ≡ true
 same_point_refl origin = refl

@@ -1,5 +1,5 @@
-use Rattle.point_laws.proofs.PointLemmas.{named}
-use Rattle.point_laws.proofs.points.points_have_names_of_their_own.Goals as goal
+use Rattle.base_laws.proofs.PointLemmas.{named}
+use Rattle.base_laws.proofs.points.points_have_names_of_their_own.Goals as goal
 
 pub returns : goal.returns
 returns c = record {
