@@ -1,0 +1,17 @@
+pub mod ListLemmas
+pub mod BetweenLemmas
+pub mod KeptLemmas
+pub mod LeaderLemmas
+pub mod GroupLemmas
+pub mod ExactLemmas
+pub mod UniqueLemmas
+pub mod DominanceLemmas
+pub mod TimeLemmas
+pub mod ListedLemmas
+pub mod DecidingLemmas
+pub mod DispatchLemmas
+pub mod StepLemmas
+pub mod AnswerLemmas
+pub mod MoveLemmas
+pub mod MarkLemmas
+pub mod WindowLemmas

@@ -1,0 +1,3 @@
+pub mod Camera
+pub mod Dominance
+pub mod Dispatching
