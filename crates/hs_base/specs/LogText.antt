@@ -1,7 +1,7 @@
 -- The text of a history.
 use Rattle.std.specs.Prelude.{ℕ, ◌+◌, List, [], ◌∷◌, ◌++◌, slice_get, Option, Some, None, codes}
 use Rattle.std.specs.Fmt.{decimal, signed_decimal}
-use Rattle.hs_base.specs.Types.{Deed, Extension, Mission, Phase, Tick, Fire, Report, Handover, Stale, Late, Early, Broken, Waiting, Running, Failed, Ended}
+use Rattle.hs_base.specs.Types.{Deed, Entry, Extension, Mission, Phase, Tick, Fire, Report, Handover, Stale, Late, Early, Broken, Waiting, Running, Failed, Ended}
 use Rattle.hs_base.specs.Walks.{join_after}
 use Rattle.hs_base.specs.State.{now_of, plan_of, phase_of}
 use Rattle.hs_base.specs.Points.{Point, origin, horizon, ending, points_of}

@@ -1,5 +1,5 @@
 -- The mission text, one definition a nonterminal; v is the version, the number behind `hsts`.
-use Rattle.std.specs.Prelude.{ℕ, cond, ◌||◌, nat_eq, pos, ℤ, List, [], ◌∷◌, ◌++◌, true, false, Option, Some, None, codes, flat_map}
+use Rattle.std.specs.Prelude.{ℕ, cond, ◌||◌, nat_eq, ℤ, List, [], ◌∷◌, ◌++◌, true, false, Option, Some, None, codes, flat_map}
 use Rattle.hs_base.specs.Types.{LAST, Range, Relation, Before, After as AfterEnd, MeetsStart, MetBy, Starts, Ends, Equals, Encloses, ContainedBy, Ast, AstChoice, AstDo, AstGoal, AstHorizon, AstKind, AstNeed, AstSaid, AstStep, AstUntil, AstValue, AstVar, Use}
 use Rattle.hs_base.specs.Names.{is_name}
 use Rattle.hs_base.specs.Ranges.{range, whole}
