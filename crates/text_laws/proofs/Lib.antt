@@ -5,3 +5,6 @@ pub mod ChoiceLemmas
 pub mod ManyLemmas
 pub mod FollowLemmas
 pub mod MissionLemmas
+pub mod PieceLemmas
+pub mod AnswerLemmas
+pub mod RefusalLemmas
