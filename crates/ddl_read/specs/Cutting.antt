@@ -1,10 +1,14 @@
 -- What the cut finds, piece by piece.
-use Rattle.std.specs.Prelude.{◌≡◌, ℕ, ◌+◌, ◌<◌, ◌≤◌, true, false, List, [], ◌∷◌, length, drop, map}
-use Rattle.std.specs.List.{AllByRecursion}
+use Rattle.std.specs.Prelude.{◌≡◌, ℕ, ◌+◌, ◌<◌, ◌≤◌, Bool, true, false, int_lt, List, [], ◌∷◌, length, take, drop, map, slice_get, Some}
+use Rattle.std.specs.List.{AllByRecursion, list_any}
+use Rattle.std.specs.Str.{IsValidUpTo}
+use Rattle.hs_base.specs.declared.limits.TheConstants.{LAST}
 use Rattle.hs_base.specs.declared.refusal.Refusal.{Refusal}
-use Rattle.hs_base.specs.declared.refusal.Refusal.TheVariants.{Char}
-use Rattle.hs_base.specs.Pieces.{after_gap, begins_no_piece, StandsFirst, Cuts, AreCut, IsBadChar}
+use Rattle.hs_base.specs.declared.refusal.Refusal.TheVariants.{Char, NotUtf8}
+use Rattle.hs_base.specs.Pieces.{after_gap, begins_no_piece, StandsFirst, Cuts, AreCut, IsBadChar, IsTextOf}
 use Rattle.ddl_read.specs.declared.piece.Piece.{Piece}
+use Rattle.ddl_read.specs.declared.piece.PieceKind.{PieceKind}
+use Rattle.ddl_read.specs.declared.piece.PieceKind.TheVariants.{Word, Number, Symbol}
 use Rattle.ddl_read.specs.declared.next.Next.{Next}
 use Rattle.ddl_read.specs.declared.next.Next.TheVariants.{Stands, Bad, End}
 use Rattle.ddl_read.specs.Spelled.{placed, IsSpelled}
@@ -45,3 +49,33 @@ pub record AreAll (text : List ℕ) (ps : List Piece) : Type 0 where
 abbrev pub IsCharRefusal : List ℕ → Refusal → Type 0
 IsCharRefusal text (Char at) = IsBadChar text at
 IsCharRefusal text _ = ⊥
+
+-- the first byte that begins no valid sequence stands at this place
+abbrev pub IsUtf8Refusal : List ℕ → Refusal → Type 0
+IsUtf8Refusal text (NotUtf8 at) = IsValidUpTo text at
+IsUtf8Refusal text _ = ⊥
+
+-- a number that was too large to keep
+abbrev pub is_too_large : PieceKind → Bool
+is_too_large Word = false
+is_too_large (Number n) = int_lt LAST n
+is_too_large (Symbol c) = false
+
+-- the first such number stands at this place
+pub record IsFirstLarge (ps : List Piece) (at : ℕ) : Type 0 where
+  pub index : ℕ
+  pub piece : Piece
+  pub here : slice_get ps index ≡ Some piece
+  pub before : list_any (λ p. is_too_large p.kind) (take index ps) ≡ false
+  pub large : is_too_large piece.kind ≡ true
+  pub place : piece.place ≡ at
+
+-- bytes and the pieces that they are cut into
+pub record CutText : Type 0 where
+  pub bytes : List ℕ
+  pub pieces : List Piece
+
+-- the bytes are a text of these pieces
+pub record IsCut (text : List ℕ) (ps : List Piece) : Type 0 where
+  pub is_text : IsTextOf text (map (placed text) ps)
+  pub spelled : AllByRecursion (IsSpelled text) ps
