@@ -81,10 +81,10 @@ IsRow-kept count bounds p row lp s h k =
 
 -- ---- The start of a row, and a schedule in range
 
-stays_low : (count : ℕ) (bounds : List Bound) → StaysInTime count bounds → (t : Schedule) → Meets bounds t → (v : ℕ) → v < count → pos 0 ≤ℤ t v
+pub stays_low : (count : ℕ) (bounds : List Bound) → StaysInTime count bounds → (t : Schedule) → Meets bounds t → (v : ℕ) → v < count → pos 0 ≤ℤ t v
 stays_low count bounds h t m v l = let i = (h.after_origin v l).holds t m in let o = m.origin in omega (arith, ints)
 
-stays_high : (count : ℕ) (bounds : List Bound) → StaysInTime count bounds → (t : Schedule) → Meets bounds t → (v : ℕ) → v < count → t v ≤ℤ pos 1000000000
+pub stays_high : (count : ℕ) (bounds : List Bound) → StaysInTime count bounds → (t : Schedule) → Meets bounds t → (v : ℕ) → v < count → t v ≤ℤ pos 1000000000
 stays_high count bounds h t m v l = let i = (h.before_last v l).holds t m in let o = m.origin in omega (arith, ints)
 
 pub Sample-from_schedule : (count : ℕ) (bounds : List Bound) (t : Schedule) → StaysInTime count bounds → Meets bounds t → Sample count bounds

@@ -2,6 +2,7 @@
 #![tactic(auto)]
 
 mod broken;
+mod closure;
 mod column;
 mod dist;
 mod folding;
@@ -12,5 +13,6 @@ mod search;
 mod trace;
 
 pub use broken::Broken;
+pub use closure::{ROWS, close, close_fixed};
 pub use dist::Dist;
 pub use search::{POINTS, solve, solve_from};
