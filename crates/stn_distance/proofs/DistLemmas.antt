@@ -24,8 +24,8 @@ Tight-self : (bounds : List Bound) (p : ℕ) (w : ℤ) → Tight bounds p p w �
 Tight-self bounds p w h =
     let low : w ≤ℤ pos 0 = h.least (pos 0) (record { holds = λ t m. omega (arith, ints) }) in
     by_lt_z w (pos 0) (λ less.
-        (let all : Implied bounds p p (w -ℤ pos 1) = record { holds = λ t m. let i = h.implied.holds t m in absurd (omega (arith, ints)) } in
-        let e = h.least (w -ℤ pos 1) all in absurd (omega (arith, ints))))
+    (let all : Implied bounds p p (w -ℤ pos 1) = record { holds = λ t m. let i = h.implied.holds t m in absurd (omega (arith, ints)) } in
+    let e = h.least (w -ℤ pos 1) all in absurd (omega (arith, ints))))
     (λ high. omega (arith, ints))
 
 -- the distances from point 0 are a schedule

@@ -28,9 +28,9 @@ impl Model for Dist {
     ghost Value = { Distances };
 
     ghost view = { λ d. record {
-        count = length d.places.items;
-        bounds = d.bounds.items;
-        rows = rows_of_table (length d.places.items) (folded_weight d.places.items d.offsets.items (items_of d.rows.items));
+      count = length d.places.items;
+      bounds = d.bounds.items;
+      rows = rows_of_table (length d.places.items) (folded_weight d.places.items d.offsets.items (items_of d.rows.items));
     } };
 
     ghost invariant = { λ d. IsExact (length d.places.items) d.bounds.items d.places.items d.offsets.items (items_of d.rows.items) };
