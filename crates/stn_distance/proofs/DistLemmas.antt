@@ -1,17 +1,17 @@
 -- A table of distances, from rows that are exact.
-use Rattle.std.proofs.Common.{Vec, Global, ◌≡◌, ℕ, ◌<◌, ◌≤◌, List, [], length, get_or, map, All, ℤ, pos, negsuc, neg_ℤ, ◌+ℤ◌, ◌-ℤ◌, ◌≤ℤ◌, refl, sym, ap, ◌∙◌, subst, arith}
+use Rattle.std.proofs.Common.{Vec, Global, ◌≡◌, ℕ, ◌<◌, ◌≤◌, List, [], length, get_or, map, All, ℤ, pos, ◌+ℤ◌, ◌-ℤ◌, ◌≤ℤ◌, refl, sym, ap, ◌∙◌, subst, arith}
 use Rattle.std.proofs.lemmas.Int.{ints, by_lt_z}
 use Rattle.std.proofs.lemmas.List.{get_or_read, get_or-map, length-map}
 use Rattle.std.proofs.lemmas.List.FromFn.{get_or-map-range_with_len}
 use Rattle.std.proofs.lemmas.List.Elements.{All-weaker, recursion_from_All, Contains-get_or}
 use Rattle.hs_base.specs.declared.net.Bound.{Bound}
-use Rattle.hs_base.specs.Schedule.{Schedule, time_of, IsBelow, Holds, Meets, Implied, Tight, numbers_from}
+use Rattle.hs_base.specs.Schedule.{time_of, IsBelow, Holds, Meets, Implied, Tight, numbers_from}
 use Rattle.hs_base.specs.Reduced.{Table, IsTableOf}
-use Rattle.stn_distance.specs.Ranges.{IsInRange, StaysInTime}
+use Rattle.stn_distance.specs.Ranges.{IsInRange}
 use Rattle.stn_distance.proofs.RowLemmas.{Implied-step}
 use Rattle.stn_distance.specs.Rows.{items_of}
 use Rattle.stn_distance.specs.Folding.{number_at}
-use Rattle.stn_distance.specs.Distances.{Distances, weight, rows_of_table, folded_weight, IsExact}
+use Rattle.stn_distance.specs.Distances.{weight, rows_of_table, folded_weight, IsExact}
 
 -- the rows of a table give its weights
 pub row-read : (n : ℕ) (d : Table) (p q : ℕ) → p < n → q < n → time_of (get_or (rows_of_table n d) p []) q ≡ d p q

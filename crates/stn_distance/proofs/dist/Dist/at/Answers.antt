@@ -1,10 +1,9 @@
-use Rattle.std.proofs.Common.{◌≡◌, ◌<◌, ℕ, ℤ, List, Vec, Global, length, get_or, [], pos, ◌+ℤ◌, ◌-ℤ◌, to_z, of_z, w64, arith, sym, ap, ◌∙◌, subst}
+use Rattle.std.proofs.Common.{◌≡◌, ◌<◌, length, pos, ◌+ℤ◌, ◌-ℤ◌, to_z, of_z, w64, arith, sym, ap, ◌∙◌}
 use Rattle.std.proofs.lemmas.Int.{ints}
-use Rattle.std.proofs.lemmas.List.{get_or_read, get_or-map, length-map}
-use Rattle.hs_base.specs.Schedule.{time_of, Tight}
+use Rattle.std.proofs.lemmas.List.{get_or_read}
 use Rattle.stn_distance.specs.Rows.{items_of}
 use Rattle.stn_distance.specs.Folding.{number_at}
-use Rattle.stn_distance.specs.Distances.{Distances, weight, folded_weight, IsExact}
+use Rattle.stn_distance.specs.Distances.{Distances, weight, folded_weight}
 use Rattle.stn_distance.proofs.DistLemmas.{row-read, row_in, apart_in, apart_is}
 use Rattle.stn_distance.proofs.dist.Dist.at.Goals as goal
 
