@@ -11,7 +11,7 @@ use Rattle.std.proofs.lemmas.List.Sums.{sum_by-set}
 use Rattle.std.proofs.lemmas.Bool.{cases_eq, cases_lt, eq-eqb, ne_eqb}
 use Rattle.hs_base.specs.declared.net.Bound.{Bound}
 use Rattle.hs_base.specs.Schedule.{Schedule, time_of, Holds, MeetsList, HasNoSchedule}
-use Rattle.stn_distance.specs.Cycles.{Leads, total, IsNegativeCycle}
+use Rattle.hs_base.specs.Cycles.{Leads, total, IsNegativeCycle}
 use Rattle.stn_distance.specs.Ranges.{IsInRange, IsStart, IsNear}
 use Rattle.stn_distance.specs.Causes.{LeadsBack, AreCauses, IsRound, RootedAt, no_bound, above, depth, slack, IsAboveFloor, bound_at, IsCause, Explained, place}
 

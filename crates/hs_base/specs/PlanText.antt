@@ -1,0 +1,14 @@
+-- The text of a plan.
+use Rattle.std.specs.Prelude.{ℕ, ◌+◌, List, [], ◌++◌, codes}
+use Rattle.std.specs.Fmt.{decimal}
+use Rattle.hs_base.specs.Types.{Extension, Mission}
+use Rattle.hs_base.specs.Walks.{join_after}
+use Rattle.hs_base.specs.Written.{body_text}
+
+-- an extension of the plan es
+abbrev pub extension_text : Mission → List Extension → Extension → List ℕ
+extension_text m es e = codes "extension " ++ decimal (e.base + 1) ++ codes "\n" ++ body_text m es e
+
+-- the text of a plan
+abbrev pub plan_text : Mission → List Extension → List ℕ
+plan_text m es = codes "hsts plan 1\n" ++ join_after (extension_text m) [] es ++ codes "end\n"
