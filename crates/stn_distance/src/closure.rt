@@ -1,7 +1,7 @@
 ghost use Rattle.std.specs.Prelude.{[], ◌+◌, ◌≤◌, length, All, IfOk, IfErr};
 ghost use Rattle.hs_base.specs.Schedule.{HasNoSchedule, MeetsList};
 ghost use Rattle.stn_distance.specs.Ranges.{IsInRange, StaysInTime, IsFixed};
-ghost use Rattle.stn_distance.specs.Cycles.{IsNegativeCycle};
+ghost use Rattle.hs_base.specs.Cycles.{IsNegativeCycle};
 ghost use Rattle.stn_distance.specs.Broken.{IfCycle};
 ghost use Rattle.stn_distance.specs.Distances.{IsDistOf};
 
