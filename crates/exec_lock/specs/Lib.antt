@@ -1,0 +1,4 @@
+pub mod Passes
+pub mod Shares
+pub mod Rule
+pub mod PassFields
