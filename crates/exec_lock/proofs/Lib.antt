@@ -1,7 +1,8 @@
+mod CountLemmas
+mod NumberLemmas
+mod SeatLemmas
+mod TurnLemmas
+mod ShareLemmas
+mod EndLemmas
 pub mod PrefixLemmas
-pub mod CountLemmas
-pub mod NumberLemmas
-pub mod SeatLemmas
-pub mod TurnLemmas
-pub mod ShareLemmas
-pub mod EndLemmas
+pub mod WorkLemmas

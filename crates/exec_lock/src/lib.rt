@@ -10,3 +10,6 @@ mod view;
 
 pub use pass::Pass;
 pub use shared::{Front, Left, Shared, Unshared};
+
+#[cfg(test)]
+mod tests;
