@@ -1,5 +1,5 @@
 -- Splits, joins, notes and lost tries keep the rule.
-use Rattle.std.proofs.Common.{◌≡◌, ◌≢◌, ◌⊎◌, ℕ, ◌+◌, ◌-◌, ◌%◌, ◌^◌, ◌<◌, ◌≤◌, ◌==◌, List, [], ◌∷◌, ◌++◌, length, set, true, false, refl, sym, ap, ◌∙◌, subst, ⊎_elim, inl, inr, arith}
+use Rattle.std.proofs.Common.{◌≡◌, ◌⊎◌, ℕ, ◌+◌, ◌-◌, ◌<◌, ◌≤◌, ◌==◌, List, [], ◌∷◌, ◌++◌, length, set, true, false, refl, sym, ap, ◌∙◌, subst, ⊎_elim, inl, inr, arith}
 use Rattle.std.proofs.lemmas.Bool.{cases_lt}
 use Rattle.std.specs.Prelude.{slice_index}
 use mathlib.Core.Option.{some, none}
@@ -11,9 +11,7 @@ use Rattle.atomic_table.proofs.Lists.{set_again, set_else, at_longer, exchanged}
 use Rattle.hs_base.specs.declared.history.Entry.{Entry}
 use Rattle.hs_base.specs.declared.mission.Mission.{Mission}
 use Rattle.hs_base.specs.Histories.{IsPrefix}
-use Rattle.exec_lock.specs.declared.view.Run.{Run}
 use Rattle.exec_lock.specs.declared.view.SeatView.{SeatView}
-use Rattle.exec_lock.specs.declared.view.View.{View}
 use Rattle.exec_lock.specs.Passes.{placed, of, is_in, in_runs, covers}
 use Rattle.exec_lock.specs.Rule.{Agrees, IsFree, IsHeld, IsKept, heads, when, nobody, seat_left, seat_right, note_of, note_heard, seats_merged, learns_order}
 use Rattle.exec_lock.proofs.CountLemmas.{total_set, total_two, total_push, is_in_least, is_in_here, is_in_where, in_runs-append, heads-append, not_head, covers-cut, covers-merged, covers_none}

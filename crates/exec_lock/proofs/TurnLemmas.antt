@@ -1,5 +1,5 @@
 -- Taking and giving back the turn keep the rule.
-use Rattle.std.proofs.Common.{◌≡◌, ◌≢◌, ℕ, ◌+◌, ◌<◌, ◌≤◌, ◌==◌, List, [], ◌∷◌, ◌++◌, length, set, true, false, refl, sym, ap, ◌∙◌, subst, ⊎_elim, inl, inr, arith, append_assoc, append-nil, length-append}
+use Rattle.std.proofs.Common.{◌≡◌, ◌≢◌, ℕ, ◌+◌, ◌<◌, ◌==◌, List, [], ◌∷◌, ◌++◌, length, true, false, refl, sym, ap, ◌∙◌, subst, ⊎_elim, inl, inr, arith, append_assoc, append-nil, length-append}
 use Rattle.std.specs.Prelude.{slice_index, slice_set, drop}
 use Rattle.std.specs.List.{AllByRecursion}
 use Rattle.std.proofs.lemmas.Bool.{cases_Bool}
@@ -16,10 +16,8 @@ use Rattle.hs_base.specs.Histories.{IsPrefix, Appends}
 use Rattle.exec_lock.specs.declared.view.Placed.{Placed}
 use Rattle.exec_lock.specs.declared.view.SeatView.{SeatView}
 use Rattle.exec_lock.specs.declared.view.View.{View}
-use Rattle.exec_lock.specs.Passes.{placed, of, is_in, covers, called}
-use Rattle.exec_lock.specs.Shares.{Calls}
+use Rattle.exec_lock.specs.Passes.{placed, of, is_in, covers}
 use Rattle.exec_lock.specs.Rule.{Agrees, IsFree, IsHeld, IsKept, total, when, taken, given, takes_turn, gives_turn}
-use Rattle.exec_lock.specs.PassFields.{only_seat}
 use Rattle.exec_lock.proofs.CountLemmas.{total_set, total_one, total_two, is_in_least, is_in_here, is_in_not, first_covered}
 use Rattle.exec_lock.proofs.PrefixLemmas.{prefix_self, prefix_trans, prefix_more, placed-append, of-append, of_other, own_grows, own_stays}
 use Rattle.exec_lock.proofs.SeatLemmas.{no_turn, each_set, set_at}

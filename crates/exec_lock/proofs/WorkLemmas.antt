@@ -1,5 +1,5 @@
 -- What calls and meetings of a pass do, and where its entries lie.
-use Rattle.std.proofs.Common.{◌≡◌, ◌⊎◌, ℕ, zero, suc, ◌+◌, ◌<◌, ◌≤◌, ◌==◌, List, [], ◌∷◌, ◌++◌, length, Bool, true, false, refl, sym, ap, ◌∙◌, subst, ⊎_elim, inl, inr, if◌then◌else◌, arith, length-append, append-nil, append_assoc, Option, Some, None}
+use Rattle.std.proofs.Common.{◌≡◌, ℕ, zero, suc, ◌+◌, ◌≤◌, ◌==◌, List, [], ◌∷◌, ◌++◌, length, Bool, true, false, sym, ap, ◌∙◌, subst, ⊎_elim, inl, inr, if◌then◌else◌, arith, length-append, append-nil, append_assoc, Some}
 use Rattle.std.specs.Prelude.{drop, slice_get, filter}
 use Rattle.std.proofs.lemmas.Bool.{cases_Bool}
 use Rattle.std.proofs.lemmas.Bool.Decides.{nat_tests}
@@ -11,7 +11,7 @@ use Rattle.exec_lock.specs.declared.view.View.{View}
 use Rattle.exec_lock.specs.Passes.{Held, placed, of, heard}
 use Rattle.exec_lock.specs.Shares.{Calls}
 use Rattle.exec_lock.specs.Works.{front, GoesOn, LieIn, Rests, Works, together, Alternates}
-use Rattle.exec_lock.proofs.PrefixLemmas.{prefix_trans, prefix_more}
+use Rattle.exec_lock.proofs.PrefixLemmas.{prefix_trans}
 
 -- a call makes an entry past the old front at most
 pub works_by_call : (Turn : List Entry → List Entry → Type 0) (p q : Held) → q.shared ≡ p.shared → Calls Turn p.view q.view → Works (front p) (front q) p q

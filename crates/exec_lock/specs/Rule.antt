@@ -9,7 +9,7 @@ use Rattle.hs_base.specs.Histories.{IsPrefix}
 use Rattle.exec_lock.specs.declared.view.Placed.{Placed}
 use Rattle.exec_lock.specs.declared.view.Run.{Run}
 use Rattle.exec_lock.specs.declared.view.SeatView.{SeatView}
-use Rattle.exec_lock.specs.Passes.{placed, of, is_in, in_runs, covers, longer, shorter, first_view, called, cut_left, cut_right, heard, merged}
+use Rattle.exec_lock.specs.Passes.{placed, of, is_in, in_runs, covers, shorter, first_view, called, cut_left, cut_right, heard, merged}
 
 -- how many of the runs begin with n
 abbrev pub heads : ℕ → List Run → ℕ
@@ -37,7 +37,8 @@ pub record Agrees (mission : Mission) (base : ℕ) (log later : List Entry) (s :
   pub own : (n : ℕ) → of n s.view.calls ≡ when (covers n s.view) (of n (placed base later))
   -- no other number of its run, or of a run that it took in, made a call: the first of a run alone does
   pub fresh : (n : ℕ) → s.view.first < n → n < s.view.first + s.view.count → of n s.view.calls ≡ []
-  pub spent : (n : ℕ) → 0 < in_runs n s.view.joined → heads n s.view.joined ≡ 0 → of n s.view.calls ≡ []
+  pub spent : (n : ℕ) → 0 < in_runs n s.view.joined → heads n s.view.joined ≡ 0
+      → of n s.view.calls ≡ []
   -- a note never has the turn
   pub holds : s.holds ≡ true → 0 < s.view.count
 
@@ -59,7 +60,8 @@ module _ {X : Type 0} (mission_of : X → Mission) (history_of : X → List Entr
     pub holding : seat.holds ≡ true
     pub words : s.words ≡ 1 ∷ []
     pub homes : s.homes ≡ none ∷ []
-    pub only : (j : ℕ) (v : SeatView) → get_elem? s.views j ≡ some v → v.holds ≡ true → (j ≡ holder) × (v.view.seen ≡ log)
+    pub only : (j : ℕ) (v : SeatView) → get_elem? s.views j ≡ some v → v.holds ≡ true
+        → (j ≡ holder) × (v.view.seen ≡ log)
 
   -- at every moment between two steps: one history begins with that of the shared core, each seat
   -- agrees with it, each number of the first run has one seat that answers for it, and no other
@@ -68,7 +70,8 @@ module _ {X : Type 0} (mission_of : X → Mission) (history_of : X → List Entr
     pub log : List Entry
     pub later : List Entry
     pub begins : log ≡ history_of key ++ later
-    pub seats : (j : ℕ) (v : SeatView) → get_elem? s.views j ≡ some v → Agrees (mission_of key) (length (history_of key)) log later v
+    pub seats : (j : ℕ) (v : SeatView) → get_elem? s.views j ≡ some v
+        → Agrees (mission_of key) (length (history_of key)) log later v
     pub once : (n : ℕ) → total n s.views ≡ is_in 0 4294967295 n
     pub others : (n : ℕ) → 4294967295 ≤ n → of n (placed (length (history_of key)) later) ≡ []
     pub turn : IsFree s log ⊎ IsHeld s log
@@ -128,7 +131,8 @@ module _ {X : Type 0} (mission_of : X → Mission) (history_of : X → List Entr
   -- where the word was 0 the seat has the core, of whose history it had seen a prefix
   abbrev pub takes_turn : Step X → Me X SeatView → ℕ → Me X SeatView → Type 0
   takes_turn step me found next = MatchBool (found == 0)
-      ((x : X) × IsPrefix me.0.view.seen (history_of x) × (mission_of x ≡ me.0.view.opening) × (next ≡ (taken me.0 (history_of x), (0, x) ∷ [])))
+      ((x : X) × IsPrefix me.0.view.seen (history_of x) × (mission_of x ≡ me.0.view.opening)
+      × (next ≡ (taken me.0 (history_of x), (0, x) ∷ [])))
       (next ≡ me)
 
 module _ {X : Type 0} (history_of : X → List Entry) where

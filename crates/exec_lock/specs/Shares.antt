@@ -4,7 +4,6 @@ use Rattle.hs_base.specs.declared.history.Entry.{Entry}
 use Rattle.hs_base.specs.declared.mission.Mission.{Mission}
 use Rattle.hs_base.specs.Histories.{IsPrefix, Appends}
 use Rattle.exec_lock.specs.declared.shared.Shared.{Shared}
-use Rattle.exec_lock.specs.declared.view.Placed.{Placed}
 use Rattle.exec_lock.specs.declared.view.View.{View}
 use Rattle.exec_lock.specs.Passes.{Which, placed, of, called}
 

@@ -24,12 +24,13 @@ impl Model for Pass {
     ghost invariant = { IsPass };
 }
 
-ghost use Rattle.std.specs.Prelude.{◌≡◌};
+ghost use Rattle.std.specs.Prelude.{◌≡◌, ◌<◌};
 
 impl Pass {
     /// The length of its run, from 1 to 4,294,967,295.
     pub fn numbers(&self) -> u32
-        ensures { result ≡ self.now.view.count }
+        ensures count { result ≡ self.now.view.count }
+        ensures some { 0 < result }
     {
         self.count
     }

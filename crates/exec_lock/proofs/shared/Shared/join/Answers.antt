@@ -1,5 +1,5 @@
 -- The fields are those of the merged seat.
-use Rattle.std.proofs.Common.{rules, ◌≡◌, ℕ, ◌%◌, ◌^◌, [], ◌∷◌, sym, ap, ◌∙◌}
+use Rattle.std.proofs.Common.{◌≡◌, ℕ, ◌%◌, ◌^◌, [], ◌∷◌, sym, ap, ◌∙◌}
 use Rattle.exec_lock.specs.declared.view.SeatView.{SeatView}
 use Rattle.exec_lock.specs.PassFields.{only_seat}
 use Rattle.exec_lock.specs.Passes.{size}
