@@ -1,0 +1,134 @@
+-- What the program's words ask for. A word is the list of its bytes.
+use Rattle.std.specs.Prelude.{ℕ, Bool, true, false, ◌&&◌, ◌||◌, not, List, [], ◌∷◌, map, filter}
+use Rattle.std.specs.Prelude.{length, drop, Option, Some, None, option_map, option_and_then, codes}
+use Rattle.std.specs.Prelude.{nat_eq, nat_le, if◌then◌else◌}
+use Rattle.std.specs.List.{after_first, before_first, list_all, list_any, starts_with}
+use Rattle.std.specs.Str.{bytes_eq}
+use Rattle.std.specs.Str.Parse.{digits_value}
+use Rattle.std.specs.Char.{is_ascii_digit}
+use Rattle.command_line.specs.declared.request.Command.{Command}
+use Rattle.command_line.specs.declared.request.Command.TheVariants as command
+use Rattle.command_line.specs.declared.request.Request.{Request}
+
+abbrev pub Word : Type 0
+Word = List ℕ
+
+-- ---- the options and the other words of a line
+
+-- the name of an option
+abbrev pub is_option : Word → Bool
+is_option name = bytes_eq name (codes "budget")
+    || (bytes_eq name (codes "seed") || bytes_eq name (codes "size"))
+
+-- the byte `=`
+abbrev pub is_equals_sign : ℕ → Bool
+is_equals_sign byte = nat_eq byte 61
+
+abbrev pub begins_with : Word → Word → Bool
+begins_with word start = starts_with nat_eq word start
+
+-- what a word is where no option waits for its value: `--`, `--NAME`, `--NAME=VALUE`, any other
+-- word that begins with a hyphen, or a plain word
+pub data Piece : Type 0 where
+  end_of_options : Piece
+  option : Word → Piece
+  option_with : Word → Word → Piece
+  hyphened : Piece
+  plain : Word → Piece
+
+-- the piece of what follows `--`
+abbrev pub long_piece : Word → Piece
+long_piece text =
+    if list_any is_equals_sign text
+    then option_with (before_first is_equals_sign text) (after_first is_equals_sign text)
+    else option text
+
+abbrev pub piece_of : Word → Piece
+piece_of word =
+    if bytes_eq word (codes "--") then end_of_options
+    else (if begins_with word (codes "--") then long_piece (drop 2 word)
+    else (if begins_with word (codes "-") then hyphened
+    else plain word))
+
+-- a value with what it is the value of: an option's name, or `command` for a word that stands alone
+abbrev pub Given : Type 0
+Given = Word × Word
+
+abbrev pub give : Word → Word → Option (List Given) → Option (List Given)
+give name value = option_map (λ more. (name, value) ∷ more)
+
+-- the words after `--` stand alone, whatever they begin with
+abbrev pub given_alone : List Word → List Given
+given_alone = map (λ word. (codes "command", word))
+
+-- what a piece gives, before what `next` gives of the rest where an option waits or none does
+abbrev pub given_by : Piece → List Word → (Option Word → Option (List Given)) → Option (List Given)
+given_by end_of_options rest next = Some (given_alone rest)
+given_by (option name) rest next = if is_option name then next (Some name) else None
+given_by (option_with name value) rest next =
+    if is_option name then give name value (next None) else None
+given_by hyphened rest next = None
+given_by (plain word) rest next = give (codes "command") word (next None)
+
+-- what the words give in their order, where the option `waiting` has the next word as its value,
+-- which does not begin with a hyphen; nothing where the words are no line of options and others
+unfoldable pub given_in : Option Word → List Word → Option (List Given)
+given_in None [] = Some []
+given_in (Some name) [] = None
+given_in None (word ∷ rest) = given_by (piece_of word) rest (λ waiting. given_in waiting rest)
+given_in (Some name) (word ∷ rest) =
+    if begins_with word (codes "-") then None else give name word (given_in None rest)
+
+-- the values given under a name
+abbrev pub values_of : Word → List Given → List Word
+values_of name given = map (λ g. g.1) (filter (λ g. bytes_eq g.0 name) given)
+
+-- ---- values
+
+abbrev pub named_command : List (Word × Command) → Word → Option Command
+named_command [] word = None
+named_command (c ∷ rest) word = if bytes_eq word c.0 then Some c.1 else named_command rest word
+
+abbrev pub command_of : Word → Option Command
+command_of = named_command ((codes "print", command.Print) ∷ (codes "plan", command.Plan)
+    ∷ (codes "check", command.Check) ∷ (codes "net", command.Net) ∷ (codes "sim", command.Sim)
+    ∷ (codes "drill", command.Drill) ∷ (codes "fly", command.Fly) ∷ [])
+
+-- the number that 1 to 19 decimal digits spell
+abbrev pub number_of : Word → Option ℕ
+number_of word =
+    if nat_le 1 (length word) && (nat_le (length word) 19 && list_all is_ascii_digit word)
+    then Some (digits_value 10 word) else None
+
+abbrev pub number_within : ℕ → ℕ → Word → Option ℕ
+number_within least most word = option_and_then (λ n.
+    if nat_le least n && nat_le n most then Some n else None) (number_of word)
+
+-- ---- the request
+
+-- what a value that stands exactly once is read as
+abbrev pub once : {X : Type 0} → (Word → Option X) → List Word → Option X
+once read (value ∷ []) = read value
+once read _ = None
+
+-- what a value that stands at most once is read as, or the default where it doesn't stand
+abbrev pub once_or : {X : Type 0} → X → (Word → Option X) → List Word → Option X
+once_or default read [] = Some default
+once_or default read values = once read values
+
+-- a request where each part is one
+abbrev pub request_of : Option Command → Option ℕ → Option (Option ℕ) → Option ℕ → Option Request
+request_of (Some command) (Some budget) (Some seed) (Some size) =
+    Some (record { command = command; budget = budget; seed = seed; size = size })
+request_of _ _ _ _ = None
+
+abbrev pub asked_by : List Given → Option Request
+asked_by given = request_of (once command_of (values_of (codes "command") given))
+    (once_or 100000 (number_within 1 1000000) (values_of (codes "budget") given))
+    (once_or None (λ word. option_map (λ n. Some n) (number_of word))
+    (values_of (codes "seed") given))
+    (once_or 40 (number_within 1 1000) (values_of (codes "size") given))
+
+-- what the words after the program's name ask for, or nothing where they are refused
+unfoldable pub words_of : List Word → Option Request
+words_of words = option_and_then asked_by (given_in None words)
