@@ -94,11 +94,13 @@ command_of = named_command ((codes "print", command.Print) ∷ (codes "plan", co
     ∷ (codes "check", command.Check) ∷ (codes "net", command.Net) ∷ (codes "sim", command.Sim)
     ∷ (codes "drill", command.Drill) ∷ (codes "fly", command.Fly) ∷ [])
 
--- the number that 1 to 19 decimal digits spell
+-- the word is 1 to 19 decimal digits and nothing else
+abbrev pub is_numeral : Word → Bool
+is_numeral word = nat_le 1 (length word) && (nat_le (length word) 19 && list_all is_ascii_digit word)
+
+-- the number that a numeral spells
 abbrev pub number_of : Word → Option ℕ
-number_of word =
-    if nat_le 1 (length word) && (nat_le (length word) 19 && list_all is_ascii_digit word)
-    then Some (digits_value 10 word) else None
+number_of word = if is_numeral word then Some (digits_value 10 word) else None
 
 abbrev pub number_within : ℕ → ℕ → Word → Option ℕ
 number_within least most word = option_and_then (λ n.

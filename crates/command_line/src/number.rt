@@ -1,14 +1,29 @@
 ghost use Rattle.std.specs.Prelude.{◌≡◌};
-ghost use Rattle.command_line.specs.Words.{number_of};
+ghost use Rattle.std.specs.List.{list_all};
+ghost use Rattle.std.specs.Char.{is_ascii_digit};
+ghost use Rattle.command_line.specs.Words.{is_numeral, number_of};
 
 // Fewer digits than the largest u64 has, so that each number of so many digits is one.
 const MOST_DIGITS: usize = 19;
+
+fn has_only_digits(text: &str) -> bool
+    ensures { result ≡ list_all is_ascii_digit text.now }
+{
+    text.as_bytes().iter().all(|byte| byte.is_ascii_digit())
+}
+
+// Whether the text is 1 to 19 decimal digits.
+fn is_number(text: &str) -> bool
+    ensures { result ≡ is_numeral text.now }
+{
+    !text.is_empty() && text.len() <= MOST_DIGITS && has_only_digits(text)
+}
 
 /// The number that 1 to 19 decimal digits spell.
 pub(crate) fn read_number(text: &str) -> Option<u64>
     ensures { result ≡ number_of text.now }
 {
-    if text.len() > MOST_DIGITS || !text.as_bytes().iter().all(u8::is_ascii_digit) {
+    if !is_number(text) {
         return None;
     }
     text.parse::<u64>().ok()
