@@ -106,6 +106,25 @@ abbrev pub number_within : ℕ → ℕ → Word → Option ℕ
 number_within least most word = option_and_then (λ n.
     if nat_le least n && nat_le n most then Some n else None) (number_of word)
 
+abbrev pub budget_of : Word → Option ℕ
+budget_of = number_within 1 1000000
+
+abbrev pub seed_of : Word → Option (Option ℕ)
+seed_of word = option_map (λ n. Some n) (number_of word)
+
+abbrev pub size_of : Word → Option ℕ
+size_of = number_within 1 1000
+
+-- what stands for an option that isn't given
+abbrev pub budget_if_absent : ℕ
+budget_if_absent = 100000
+
+abbrev pub seed_if_absent : Option ℕ
+seed_if_absent = None
+
+abbrev pub size_if_absent : ℕ
+size_if_absent = 40
+
 -- ---- the request
 
 -- what a value that stands exactly once is read as
@@ -116,7 +135,7 @@ once read _ = None
 -- what a value that stands at most once is read as, or the default where it doesn't stand
 abbrev pub once_or : {X : Type 0} → X → (Word → Option X) → List Word → Option X
 once_or default read [] = Some default
-once_or default read values = once read values
+once_or default read (value ∷ more) = once read (value ∷ more)
 
 -- a request where each part is one
 abbrev pub request_of : Option Command → Option ℕ → Option (Option ℕ) → Option ℕ → Option Request
@@ -126,10 +145,9 @@ request_of _ _ _ _ = None
 
 abbrev pub asked_by : List Given → Option Request
 asked_by given = request_of (once command_of (values_of (codes "command") given))
-    (once_or 100000 (number_within 1 1000000) (values_of (codes "budget") given))
-    (once_or None (λ word. option_map (λ n. Some n) (number_of word))
-    (values_of (codes "seed") given))
-    (once_or 40 (number_within 1 1000) (values_of (codes "size") given))
+    (once_or budget_if_absent budget_of (values_of (codes "budget") given))
+    (once_or seed_if_absent seed_of (values_of (codes "seed") given))
+    (once_or size_if_absent size_of (values_of (codes "size") given))
 
 -- what the words after the program's name ask for, or nothing where they are refused
 unfoldable pub words_of : List Word → Option Request

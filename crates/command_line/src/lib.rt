@@ -12,3 +12,6 @@ pub use request::{
 pub use unasked::Unasked;
 pub use words::words_of;
 
+
+#[cfg(test)]
+mod tests;

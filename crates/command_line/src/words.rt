@@ -1,6 +1,9 @@
-ghost use Rattle.std.specs.Prelude.{◌≡◌, IfOk, Some, None, map, string_bytes};
+ghost use Rattle.std.specs.Prelude.{◌≡◌, IfOk, None, Some, map, string_bytes};
+ghost use Rattle.clap.specs.Words.{first_value, found_of};
+ghost use Rattle.command_line.specs.Found.{request_at};
+ghost use Rattle.command_line.specs.Words.{words_of as asked};
 
-use crate::number::read_number;
+use crate::number::{read_number, read_number_or};
 use crate::request::{BUDGET, MOST_BUDGET, MOST_SIZE, SIZE};
 use crate::{Command, Request, Unasked};
 use clap::{Arg, ArgMatches};
@@ -9,7 +12,10 @@ use std::alloc::{AllocError, Global};
 /// What the program is asked for by its words, which are those after its name: one command, and
 /// the options `--budget N`, `--seed N` and `--size N` in any order, each at most once. `Usage`
 /// comes exactly where the words are no such line.
-pub fn words_of(alloc: Global, words: &[String]) -> Result<Request, Unasked> {
+pub fn words_of(alloc: Global, words: &[String]) -> Result<Request, Unasked>
+    ensures asked { IfOk result (λ request. asked (map string_bytes words.now) ≡ Some request) }
+    ensures refused { result ≡ Err Unasked.Usage → asked (map string_bytes words.now) ≡ None }
+{
     let matches = line(alloc)?.try_get_matches_from(words)?;
     request_in(&matches).ok_or(Unasked::Usage)
 }
@@ -26,26 +32,25 @@ fn line<'a>(alloc: Global) -> Result<clap::Command<'a>, AllocError> {
 }
 
 // What the values found ask for.
-fn request_in(matches: &ArgMatches<'_>) -> Option<Request> {
+fn request_in(matches: &ArgMatches<'_>) -> Option<Request>
+    ensures { result ≡ request_at (first_value (found_of matches.now)) }
+{
     let command = Command::named(matches.get_str("command")?)?;
-    let budget = match matches.get_str("budget") {
-        Some(text) => read_number(text).filter(|n| (1..=MOST_BUDGET).contains(n))?,
-        None => BUDGET,
-    };
+    let budget = read_number_or(matches.get_str("budget"), BUDGET, 1, MOST_BUDGET)?;
+    let size = read_number_or(
+        matches.get_str("size"),
+        u64::from(SIZE),
+        1,
+        u64::from(MOST_SIZE),
+    )?;
     let seed = match matches.get_str("seed") {
         Some(text) => Some(read_number(text)?),
         None => None,
-    };
-    let size = match matches.get_str("size") {
-        Some(text) => {
-            read_number(text).filter(|n| (1..=u64::from(MOST_SIZE)).contains(n))? as u32
-        }
-        None => SIZE,
     };
     Some(Request {
         command,
         budget,
         seed,
-        size,
+        size: size as u32,
     })
 }
