@@ -1,6 +1,7 @@
 ghost use Rattle.std.specs.Prelude.{◌≡◌, IfOk, None, Some, map, string_bytes};
-ghost use Rattle.clap.specs.Words.{first_value, found_of};
+ghost use Rattle.clap.specs.Words.{app_of, first_value, found_of};
 ghost use Rattle.command_line.specs.Found.{request_at};
+ghost use Rattle.command_line.specs.Line.{line_app};
 ghost use Rattle.command_line.specs.Words.{words_of as asked};
 
 use crate::number::{read_number, read_number_or};
@@ -21,7 +22,9 @@ pub fn words_of(alloc: Global, words: &[String]) -> Result<Request, Unasked>
 }
 
 // The line as clap reads it. The values are texts, which the program reads itself.
-fn line<'a>(alloc: Global) -> Result<clap::Command<'a>, AllocError> {
+fn line<'a>(alloc: Global) -> Result<clap::Command<'a>, AllocError>
+    ensures { IfOk result (λ command. app_of command ≡ line_app) }
+{
     clap::Command::new(alloc, "hsts")
         .no_binary_name(true)
         .disable_help_flag(true)
