@@ -1,1 +1,4 @@
+pub mod AskedLemmas
+pub mod GivenLemmas
 pub mod NumberLemmas
+pub mod SortLemmas

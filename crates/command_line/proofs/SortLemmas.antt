@@ -1,0 +1,66 @@
+-- The sorts of words, by their first two bytes.
+use Rattle.std.proofs.Common.{◌≡◌, ◌∙◌, ◌&&◌, ◌⊎◌, ℕ, Bool, cond, true, false, List, [], ◌∷◌, length, Option, Some, None, ap, refl, sym, subst, codes, arith, inl, inr, nat_eq, nat_le, eq-eqb}
+use Rattle.std.specs.List.{list_all}
+use Rattle.std.specs.Str.{bytes_eq}
+use Rattle.std.specs.Char.{is_ascii_digit}
+use Rattle.std.proofs.lemmas.Bool.{cases_Bool, eqb-false, eqb-true, ne_eqb}
+use Rattle.std.proofs.lemmas.Slice.Eq.{bytes_eq-Decides}
+use Rattle.clap.specs.Lexer.{long_of, name_and_value, short_of}
+use Rattle.command_line.specs.Words.{Word, begins_with, hyphened, long_piece, number_of, piece_of, plain}
+use Rattle.command_line.proofs.AskedLemmas.{IsWrong}
+
+-- the word looks like no flag
+pub record IsNoFlag (word : Word) : Type 0 where
+  pub no_end : bytes_eq word (codes "--") ≡ false
+  pub no_long : long_of word ≡ None
+  pub no_short : short_of word ≡ None
+
+-- a plain word; `-`; `--`; `--` and more; a hyphen and more
+pub data Sort (word : Word) : Type 0 where
+  alone : IsNoFlag word → piece_of word ≡ plain word → begins_with word (codes "-") ≡ false → Sort word
+  hyphen : IsNoFlag word → piece_of word ≡ hyphened → begins_with word (codes "-") ≡ true → IsWrong word → Sort word
+  ends : word ≡ codes "--" → Sort word
+  long : (text : Word) → bytes_eq word (codes "--") ≡ false → long_of word ≡ Some (name_and_value text)
+      → piece_of word ≡ long_piece text → begins_with word (codes "-") ≡ true → Sort word
+  short : (flags : Word) → bytes_eq word (codes "--") ≡ false → long_of word ≡ None → short_of word ≡ Some flags
+      → piece_of word ≡ hyphened → begins_with word (codes "-") ≡ true → IsWrong word → Sort word
+
+and_false : (a b c : Bool) → (a && (b && (false && c))) ≡ false
+and_false false b c = refl
+and_false true false c = refl
+and_false true true c = refl
+
+wrong : (rest : Word) → IsWrong (45 ∷ rest)
+wrong rest = record {
+  command = refl;
+  number = rw (and_false (nat_le 1 (length (45 ∷ rest))) (nat_le (length (45 ∷ rest)) 19) (list_all is_ascii_digit rest)) refl;
+}
+
+two_hyphens : (rest : Word) → Sort (45 ∷ 45 ∷ rest)
+two_hyphens [] = ends refl
+two_hyphens (x ∷ rest) = long (x ∷ rest) refl refl refl refl
+
+-- a byte that is no hyphen, from either side
+record IsOther (x : ℕ) : Type 0 where
+  left : nat_eq x 45 ≡ false
+  right : nat_eq 45 x ≡ false
+
+other : (x : ℕ) → (x ≡ 45) ⊎ IsOther x
+other x = elim (cases_Bool (nat_eq x 45)) [
+  | inl e ↦ inl (eqb-true x 45 e)
+  | inr e ↦ inr (record { left = e; right = ne_eqb 45 x (λ s. eqb-false x 45 e (sym s)) })
+]
+
+one_hyphen : (rest : Word) → Sort (45 ∷ rest)
+one_hyphen [] = hyphen (record { no_end = refl; no_long = refl; no_short = refl }) refl refl (wrong [])
+one_hyphen (x ∷ rest) = elim (other x) [
+  | inl is ↦ subst (λ y. Sort (45 ∷ y ∷ rest)) (sym is) (two_hyphens rest)
+  | inr o ↦ short (x ∷ rest) (rw o.left refl) (rw o.left refl) (rw o.left refl) (rw (o.left, o.right) refl) refl (wrong (x ∷ rest))
+]
+
+pub sort_of : (word : Word) → Sort word
+sort_of [] = alone (record { no_end = refl; no_long = refl; no_short = refl }) refl refl
+sort_of (x ∷ rest) = elim (other x) [
+  | inl is ↦ subst (λ y. Sort (y ∷ rest)) (sym is) (one_hyphen rest)
+  | inr o ↦ alone (record { no_end = rw o.left refl; no_long = rw o.left refl; no_short = rw o.left refl }) (rw (o.left, o.right) refl) (rw o.right refl)
+]

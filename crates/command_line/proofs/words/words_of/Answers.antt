@@ -1,0 +1,5 @@
+use Rattle.command_line.proofs.SortLemmas.{sort_of}
+use Rattle.command_line.proofs.words.words_of.Goals as goal
+
+pub returns-clause-asked : goal.returns-clause-asked
+returns-clause-asked c = ?
