@@ -1,4 +1,5 @@
 pub mod AskedLemmas
 pub mod GivenLemmas
+pub mod LineLemmas
 pub mod NumberLemmas
 pub mod SortLemmas
