@@ -3,3 +3,4 @@ pub mod GivenLemmas
 pub mod LineLemmas
 pub mod NumberLemmas
 pub mod SortLemmas
+pub mod StepLemmas

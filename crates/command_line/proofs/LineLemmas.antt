@@ -11,7 +11,7 @@ use Rattle.clap.specs.Walk.{Held, Outcome, Row, Rule, Text, Waiting, Walk, actio
 use Rattle.clap.specs.Walk.{plain as no_flag}
 use Rattle.clap.specs.Kinds.{Kinds, or_else}
 use Rattle.clap.specs.Faults.{bundle_fault, flags_fault, repeat_fault, settle_fault, turn_fault, use_fault, walk_fault}
-use Rattle.clap.specs.Simple.{Shape, built}
+use Rattle.clap.specs.Simple.{Shape, built, filled, new_rule, with_index}
 use Rattle.clap.specs.Words.{is_simple_and_free}
 use Rattle.clap.specs.declared.error.kind.ErrorKind.{ErrorKind}
 use Rattle.clap.specs.declared.error.kind.ErrorKind.TheVariants.{ArgumentConflict, InvalidValue, UnknownArgument}
@@ -49,6 +49,9 @@ pub record KnownOption (name : Word) : Type 0 where
 or_else-nil : (ks : Kinds) → or_else ks [] ≡ ks
 or_else-nil [] = refl
 or_else-nil (k ∷ ks) = refl
+
+abbrev pub command_rule : Rule
+command_rule = with_index 1 (filled (new_rule (codes "command")))
 
 pub command_known : Known (codes "command")
 command_known = record { rule = _; by_id = refl; none = λ rs. refl; one = λ value rs. or_else-nil (repeat_fault false (codes "command") rs); used = λ value rs. refl }

@@ -1,0 +1,167 @@
+-- One more word of the line: where `clap` stands after it, or that it refuses it.
+use Rattle.std.proofs.Common.{◌≡◌, ◌∙◌, ◌++◌, ◌&&◌, ◌||◌, ◌⊎◌, ℕ, Bool, cond, true, false, List, [], ◌∷◌, map, length, Option, Some, None, ap, ap₂, refl, sym, subst, codes, arith, suc, inl, inr}
+use Rattle.std.specs.Prelude.{slice_get, if◌then◌else◌}
+use Rattle.std.specs.List.{fold}
+use Rattle.std.specs.Str.{bytes_eq, chars}
+use Rattle.std.proofs.lemmas.Bool.{cases_Bool}
+use Rattle.std.proofs.lemmas.Slice.Eq.{bytes_eq-Decides}
+use Rattle.clap.specs.Lexer.{long_of, name_and_value, short_of}
+use Rattle.clap.specs.Walk.{Held, Outcome, Row, Rule, Step, Text, Waiting, Walk, arg_by_long, bundle, bundle_met, idle, is_pending, most_values, option, positional_held, pushed, settled, takes_values, used, walked, word_met}
+use Rattle.clap.specs.Walk.{value as positional_value}
+use Rattle.clap.specs.Walk.{plain as no_flag, positional}
+use Rattle.clap.specs.Kinds.{Kinds, or_else}
+use Rattle.clap.specs.Faults.{bundle_fault, flags_fault, react_fault, settle_fault, step_fault, turn_fault, use_fault, walk_fault, word_fault}
+use Rattle.clap.specs.declared.error.kind.ErrorKind.{ErrorKind}
+use Rattle.clap.specs.declared.error.kind.ErrorKind.TheVariants.{ArgumentConflict, InvalidValue, UnknownArgument}
+use Rattle.command_line.specs.Words.{Given, Word}
+use Rattle.command_line.proofs.GivenLemmas.{has}
+use Rattle.command_line.proofs.AskedLemmas.{Dead, IsName, row, rows}
+use Rattle.command_line.proofs.SortLemmas.{IsNoFlag}
+use Rattle.command_line.proofs.LineLemmas.{Known, KnownOption, Settling, command_rule, joins, clash, first_use, kept, line, repeat-clash, repeat-fresh, waiting_fault}
+
+-- where the walk stands: what was found, what is pending, what waits for a value, whether a command
+-- was met, and whether `--` was
+abbrev pub stand : List Given → Option (Text × List Text) → Waiting → Bool → Bool → Walk
+stand given pending waiting met trailing = record {
+  held = kept given pending;
+  waiting = waiting;
+  position = if met then 2 else 1;
+  is_trailing = trailing;
+  stopped = None;
+}
+
+-- the word is taken
+pub record Goes (from : Walk) (word : Word) (to : Walk) : Type 0 where
+  pub passes : turn_fault line [] from word ≡ []
+  pub leads : walked line.rules [] from word ≡ to
+
+-- the word is refused
+pub record Stops (from : Walk) (word : Word) : Type 0 where
+  pub kind : ErrorKind
+  pub fails : turn_fault line [] from word ≡ kind ∷ []
+
+-- ---- a word that stands alone
+
+-- no flag is looked for after `--`, and none is found in a plain word
+abbrev IsAlone : Bool → Word → Type 0
+IsAlone trailing word = (trailing ≡ true) ⊎ ((trailing ≡ false) × IsNoFlag word)
+
+record IsValue (trailing : Bool) (waiting : Waiting) (position : ℕ) (word : Word) (held : Held) : Type 0 where
+  no_fault : word_fault line [] trailing waiting word held ≡ []
+  met : word_met line.rules [] trailing waiting position word held ≡ (held, positional_value)
+
+value_idle : (trailing : Bool) (position : ℕ) (word : Word) (held : Held) → IsAlone trailing word → IsValue trailing idle position word held
+value_idle trailing position word held alone = elim alone [
+  | inl is ↦ record { no_fault = rw is refl; met = rw is refl }
+  | inr is ↦ let n = is.1 in record {
+    no_fault = rw (is.0, n.no_end, n.no_long, n.no_short) refl;
+    met = rw (is.0, n.no_end, n.no_long, n.no_short) refl;
+  }
+]
+
+neither : {X : Type 0} (b : Bool) (x y : X) → cond (b && false) x y ≡ y
+neither true x y = refl
+neither false x y = refl
+
+or_false : (b : Bool) → (b || false) ≡ b
+or_false true = refl
+or_false false = refl
+
+-- it goes to the command's positional, once what is pending is settled
+to_command : (held : Held) → step_fault line 1 held positional_value ≡ settle_fault line.rules false held
+to_command held = neither (is_pending command_rule held.pending) [] (settle_fault line.rules false held)
+
+command_held : (word : Word) (held : Held) (all : List Given) → settled line.rules held ≡ kept all None
+    → positional_held line.rules command_rule word held ≡ kept all (Some (codes "command", word ∷ []))
+command_held word held all after =
+    ap (pushed (codes "command") word) (neither (is_pending command_rule held.pending) held (settled line.rules held) ∙ after)
+
+-- the first word that stands alone is the command
+pub command_goes : (given all : List Given) (pending : Option (Text × List Text)) (trailing : Bool) (word : Word)
+    → IsAlone trailing word → settle_fault line.rules false (kept given pending) ≡ [] → settled line.rules (kept given pending) ≡ kept all None
+    → Goes (stand given pending idle false trailing) word (stand all (Some (codes "command", word ∷ [])) idle true trailing)
+unfolding walked
+command_goes given all pending trailing word alone fault after =
+    let v = value_idle trailing 1 word (kept given pending) alone in
+    record {
+      passes = rw (v.no_fault, v.met) (to_command (kept given pending) ∙ fault);
+      leads = rw v.met (ap₂ (λ h t. record { held = h; waiting = idle; position = 2; is_trailing = t; stopped = None })
+      (command_held word (kept given pending) all after) (or_false trailing));
+    }
+
+pub command_stops : (given : List Given) (pending : Option (Text × List Text)) (trailing : Bool) (word : Word)
+    → IsAlone trailing word → settle_fault line.rules false (kept given pending) ≡ ArgumentConflict ∷ []
+    → Stops (stand given pending idle false trailing) word
+command_stops given pending trailing word alone fault =
+    let v = value_idle trailing 1 word (kept given pending) alone in
+    record { kind = ArgumentConflict; fails = rw (v.no_fault, v.met) (to_command (kept given pending) ∙ fault) }
+
+-- a second one is refused
+pub second_stops : (given : List Given) (pending : Option (Text × List Text)) (trailing : Bool) (word : Word)
+    → IsAlone trailing word → Stops (stand given pending idle true trailing) word
+second_stops given pending trailing word alone =
+    let v = value_idle trailing 2 word (kept given pending) alone in
+    record { kind = UnknownArgument; fails = rw (v.no_fault, v.met) refl }
+
+-- ---- `--`
+
+pub ends_options : (given : List Given) (pending : Option (Text × List Text)) (met : Bool)
+    → Goes (stand given pending idle met false) (codes "--") (stand given pending idle met true)
+unfolding walked
+ends_options given pending met = record { passes = refl; leads = refl }
+
+pub ends_waiting : (given : List Given) (pending : Option (Text × List Text)) (name : Word) (met : Bool)
+    → Goes (stand given pending (option name) met false) (codes "--") (stand given pending (option name) met true)
+unfolding walked
+ends_waiting given pending name met = record { passes = refl; leads = refl }
+
+-- ---- a word with a long name
+
+pub unknown_stops : (given : List Given) (pending : Option (Text × List Text)) (waiting : Waiting) (met : Bool) (word name : Word) (attached : Option Word)
+    → bytes_eq word (codes "--") ≡ false → long_of word ≡ Some (name, attached) → arg_by_long line.rules name ≡ None
+    → Stops (stand given pending waiting met false) word
+unknown_stops given pending idle met word name attached no_end long none = record { kind = UnknownArgument; fails = rw (no_end, long, none) refl }
+unknown_stops given pending (option id) met word name attached no_end long none = record { kind = UnknownArgument; fails = rw (no_end, long, none) refl }
+unknown_stops given pending positional met word name attached no_end long none = record { kind = UnknownArgument; fails = rw (no_end, long, none) refl }
+
+module _ (given all : List Given) (pending : Option (Text × List Text)) (met : Bool) (word name : Word) (no_end : bytes_eq word (codes "--") ≡ false)
+  (known : KnownOption name) (after : settled line.rules (kept given pending) ≡ kept all None) where
+  rows_after : (settled line.rules (kept given pending)).rows ≡ rows all
+  rows_after = ap (λ (h : Held). h.rows) after
+
+  -- an option with its value
+  pub valued_goes : (value : Word) → long_of word ≡ Some (name, Some value) → settle_fault line.rules false (kept given pending) ≡ []
+      → has name all ≡ false → Goes (stand given pending idle met false) word (stand (all ++ (name, value) ∷ []) None idle met false)
+  unfolding walked
+  valued_goes value long fault fresh =
+      let react : react_fault line.rules false known.known.rule (value ∷ []) (kept given pending) ≡ []
+          = rw (fault, rows_after, known.known.one value (rows all)) (repeat-fresh name all fresh) in
+      let row_added : used known.known.rule (value ∷ []) (settled line.rules (kept given pending)).rows ≡ rows (all ++ (name, value) ∷ [])
+          = ap (used known.known.rule (value ∷ [])) rows_after ∙ known.known.used value (rows all) ∙ first_use name value all fresh in
+      record {
+        passes = rw (no_end, long, known.by_long, known.takes, react) refl;
+        leads = rw (no_end, long, known.by_long, known.takes) (ap (λ rs. record { held = record { rows = rs; pending = None; skip = 0 }; waiting = idle; position = if met then 2 else 1; is_trailing = false; stopped = None }) row_added);
+      }
+
+  -- one that has a value already
+  pub valued_stops : (value : Word) → long_of word ≡ Some (name, Some value) → settle_fault line.rules false (kept given pending) ≡ []
+      → has name all ≡ true → Stops (stand given pending idle met false) word
+  valued_stops value long fault stands =
+      let react : react_fault line.rules false known.known.rule (value ∷ []) (kept given pending) ≡ ArgumentConflict ∷ []
+          = rw (fault, rows_after, known.known.one value (rows all)) (repeat-clash name all stands) in
+      record { kind = ArgumentConflict; fails = rw (no_end, long, known.by_long, known.takes, react) refl }
+
+  -- an option that waits for its value
+  pub option_goes : long_of word ≡ Some (name, None) → settle_fault line.rules false (kept given pending) ≡ []
+      → Goes (stand given pending idle met false) word (stand all (Some (name, [])) (option name) met false)
+  unfolding walked
+  option_goes long fault = record {
+    passes = rw (no_end, long, known.by_long, known.takes, fault) refl;
+    leads = rw (no_end, long, known.by_long, known.takes) (ap₂ (λ (h : Held) (n : Word). record { held = record h { pending = Some (n, []) }; waiting = option n; position = if met then 2 else 1; is_trailing = false; stopped = None }) after known.named);
+  }
+
+  -- what was pending has a value already
+  pub option_stops : (attached : Option Word) → long_of word ≡ Some (name, attached) → settle_fault line.rules false (kept given pending) ≡ ArgumentConflict ∷ []
+      → Stops (stand given pending idle met false) word
+  option_stops None long fault = record { kind = ArgumentConflict; fails = rw (no_end, long, known.by_long, known.takes, fault) refl }
+  option_stops (Some value) long fault = record { kind = ArgumentConflict; fails = rw (no_end, long, known.by_long, known.takes, fault) refl }
