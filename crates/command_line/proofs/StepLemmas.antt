@@ -6,7 +6,7 @@ use Rattle.std.specs.Str.{bytes_eq, chars}
 use Rattle.std.proofs.lemmas.Bool.{cases_Bool}
 use Rattle.std.proofs.lemmas.Slice.Eq.{bytes_eq-Decides}
 use Rattle.clap.specs.Lexer.{long_of, name_and_value, short_of}
-use Rattle.clap.specs.Walk.{Held, Outcome, Row, Rule, Step, Text, Waiting, Walk, arg_by_long, bundle, bundle_met, idle, is_pending, most_values, option, positional_held, pushed, settled, takes_values, used, walked, word_met}
+use Rattle.clap.specs.Walk.{Held, Outcome, Row, Rule, Step, Text, Waiting, Walk, arg_by_long, bundle, bundle_met, idle, is_pending, most_values, option, positional_held, plain_word, pushed, settled, subcommand_met, takes_values, used, walked, word_met}
 use Rattle.clap.specs.Walk.{value as positional_value}
 use Rattle.clap.specs.Walk.{plain as no_flag, positional}
 use Rattle.clap.specs.Kinds.{Kinds, or_else}
@@ -40,24 +40,65 @@ pub record Stops (from : Walk) (word : Word) : Type 0 where
   pub kind : ErrorKind
   pub fails : turn_fault line [] from word ≡ kind ∷ []
 
--- ---- a word that stands alone
+-- ---- a word that is no flag
 
--- no flag is looked for after `--`, and none is found in a plain word
-abbrev IsAlone : Bool → Word → Type 0
-IsAlone trailing word = (trailing ≡ true) ⊎ ((trailing ≡ false) × IsNoFlag word)
+no_subcommand : (waiting : Waiting) (word : Word) → subcommand_met [] waiting word ≡ None
+no_subcommand idle word = refl
+no_subcommand (option id) word = refl
+no_subcommand positional word = refl
 
-record IsValue (trailing : Bool) (waiting : Waiting) (position : ℕ) (word : Word) (held : Held) : Type 0 where
-  no_fault : word_fault line [] trailing waiting word held ≡ []
-  met : word_met line.rules [] trailing waiting position word held ≡ (held, positional_value)
+-- the word passes, and is met so
+pub record IsMet (trailing : Bool) (waiting : Waiting) (position : ℕ) (word : Word) (held : Held) (met : Held × Step) : Type 0 where
+  pub no_fault : word_fault line [] trailing waiting word held ≡ []
+  pub meets : word_met line.rules [] trailing waiting position word held ≡ met
 
-value_idle : (trailing : Bool) (position : ℕ) (word : Word) (held : Held) → IsAlone trailing word → IsValue trailing idle position word held
-value_idle trailing position word held alone = elim alone [
-  | inl is ↦ record { no_fault = rw is refl; met = rw is refl }
-  | inr is ↦ let n = is.1 in record {
-    no_fault = rw (is.0, n.no_end, n.no_long, n.no_short) refl;
-    met = rw (is.0, n.no_end, n.no_long, n.no_short) refl;
-  }
+-- after `--` each word stands alone
+pub value_trailing : (waiting : Waiting) (position : ℕ) (word : Word) (held : Held)
+    → IsMet true waiting position word held (held, positional_value)
+value_trailing waiting position word held = record { no_fault = refl; meets = refl }
+
+-- a plain word goes to what waits for it
+pub value_plain : (waiting : Waiting) (position : ℕ) (word : Word) (held : Held) → IsNoFlag word
+    → IsMet false waiting position word held (plain_word line.rules waiting word held)
+value_plain waiting position word held n = record {
+  no_fault = rw (no_subcommand waiting word, n.no_end, n.no_long, n.no_short) refl;
+  meets = rw (no_subcommand waiting word, n.no_end, n.no_long, n.no_short) refl;
+}
+
+-- the first character of a bundle of short flags is unknown, or the bundle has none
+data Bundle (flags : Word) (held : Held) : Type 0 where
+  refused_bundle : bundle_fault line.rules false flags held ≡ UnknownArgument ∷ [] → Bundle flags held
+  no_bundle : bundle_fault line.rules false flags held ≡ [] → bundle line.rules flags held ≡ (held, no_flag) → Bundle flags held
+
+bundle_of : (flags : Word) (given : List Given) (pending : Option (Text × List Text)) → Bundle flags (kept given pending)
+unfolding flags_fault bundle_met
+bundle_of [] given pending = no_bundle refl refl
+bundle_of (byte ∷ flags) given pending = go (slice_get (chars (byte ∷ flags)) 0) refl
+  where
+    go : (first : Option ℕ) → slice_get (chars (byte ∷ flags)) 0 ≡ first → Bundle (byte ∷ flags) (kept given pending)
+    go (Some x) is = refused_bundle (rw is refl)
+    go None is = no_bundle (rw is refl) (rw is refl)
+
+-- a word that begins with one hyphen is refused, or is taken for a value
+pub data ShortWord (waiting : Waiting) (position : ℕ) (word : Word) (held : Held) : Type 0 where
+  refused_short : word_fault line [] false waiting word held ≡ UnknownArgument ∷ [] → ShortWord waiting position word held
+  value_short : IsMet false waiting position word held (plain_word line.rules waiting word held) → ShortWord waiting position word held
+
+pub short_word_of : (waiting : Waiting) (position : ℕ) (word flags : Word) (given : List Given) (pending : Option (Text × List Text))
+    → bytes_eq word (codes "--") ≡ false → long_of word ≡ None → short_of word ≡ Some flags → ShortWord waiting position word (kept given pending)
+short_word_of waiting position word flags given pending no_end no_long short = elim (bundle_of flags given pending) [
+  | refused_bundle fault ↦ refused_short (rw (no_subcommand waiting word, no_end, no_long, short) fault)
+  | no_bundle fault met ↦ value_short (record {
+    no_fault = rw (no_subcommand waiting word, no_end, no_long, short) fault;
+    meets = rw (no_subcommand waiting word, no_end, no_long, short, met) refl;
+  })
 ]
+
+pub short_stops : (given : List Given) (pending : Option (Text × List Text)) (waiting : Waiting) (met : Bool) (word : Word)
+    → word_fault line [] false waiting word (kept given pending) ≡ UnknownArgument ∷ [] → Stops (stand given pending waiting met false) word
+short_stops given pending waiting met word fault = record { kind = UnknownArgument; fails = rw fault refl }
+
+-- ---- a value for the command
 
 neither : {X : Type 0} (b : Bool) (x y : X) → cond (b && false) x y ≡ y
 neither true x y = refl
@@ -78,30 +119,27 @@ command_held word held all after =
 
 -- the first word that stands alone is the command
 pub command_goes : (given all : List Given) (pending : Option (Text × List Text)) (trailing : Bool) (word : Word)
-    → IsAlone trailing word → settle_fault line.rules false (kept given pending) ≡ [] → settled line.rules (kept given pending) ≡ kept all None
+    → IsMet trailing idle 1 word (kept given pending) (kept given pending, positional_value) → settle_fault line.rules false (kept given pending) ≡ [] → settled line.rules (kept given pending) ≡ kept all None
     → Goes (stand given pending idle false trailing) word (stand all (Some (codes "command", word ∷ [])) idle true trailing)
 unfolding walked
-command_goes given all pending trailing word alone fault after =
-    let v = value_idle trailing 1 word (kept given pending) alone in
+command_goes given all pending trailing word v fault after =
     record {
-      passes = rw (v.no_fault, v.met) (to_command (kept given pending) ∙ fault);
-      leads = rw v.met (ap₂ (λ h t. record { held = h; waiting = idle; position = 2; is_trailing = t; stopped = None })
+      passes = rw (v.no_fault, v.meets) (to_command (kept given pending) ∙ fault);
+      leads = rw v.meets (ap₂ (λ h t. record { held = h; waiting = idle; position = 2; is_trailing = t; stopped = None })
       (command_held word (kept given pending) all after) (or_false trailing));
     }
 
 pub command_stops : (given : List Given) (pending : Option (Text × List Text)) (trailing : Bool) (word : Word)
-    → IsAlone trailing word → settle_fault line.rules false (kept given pending) ≡ ArgumentConflict ∷ []
+    → IsMet trailing idle 1 word (kept given pending) (kept given pending, positional_value) → settle_fault line.rules false (kept given pending) ≡ ArgumentConflict ∷ []
     → Stops (stand given pending idle false trailing) word
-command_stops given pending trailing word alone fault =
-    let v = value_idle trailing 1 word (kept given pending) alone in
-    record { kind = ArgumentConflict; fails = rw (v.no_fault, v.met) (to_command (kept given pending) ∙ fault) }
+command_stops given pending trailing word v fault =
+    record { kind = ArgumentConflict; fails = rw (v.no_fault, v.meets) (to_command (kept given pending) ∙ fault) }
 
 -- a second one is refused
 pub second_stops : (given : List Given) (pending : Option (Text × List Text)) (trailing : Bool) (word : Word)
-    → IsAlone trailing word → Stops (stand given pending idle true trailing) word
-second_stops given pending trailing word alone =
-    let v = value_idle trailing 2 word (kept given pending) alone in
-    record { kind = UnknownArgument; fails = rw (v.no_fault, v.met) refl }
+    → IsMet trailing idle 2 word (kept given pending) (kept given pending, positional_value) → Stops (stand given pending idle true trailing) word
+second_stops given pending trailing word v =
+    record { kind = UnknownArgument; fails = rw (v.no_fault, v.meets) refl }
 
 -- ---- `--`
 
@@ -160,8 +198,25 @@ module _ (given all : List Given) (pending : Option (Text × List Text)) (met : 
     leads = rw (no_end, long, known.by_long, known.takes) (ap₂ (λ (h : Held) (n : Word). record { held = record h { pending = Some (n, []) }; waiting = option n; position = if met then 2 else 1; is_trailing = false; stopped = None }) after known.named);
   }
 
-  -- what was pending has a value already
-  pub option_stops : (attached : Option Word) → long_of word ≡ Some (name, attached) → settle_fault line.rules false (kept given pending) ≡ ArgumentConflict ∷ []
-      → Stops (stand given pending idle met false) word
-  option_stops None long fault = record { kind = ArgumentConflict; fails = rw (no_end, long, known.by_long, known.takes, fault) refl }
-  option_stops (Some value) long fault = record { kind = ArgumentConflict; fails = rw (no_end, long, known.by_long, known.takes, fault) refl }
+-- an option after what can't be used
+pub option_stops : (given : List Given) (pending : Option (Text × List Text)) (waiting : Waiting) (met : Bool) (word name : Word) (attached : Option Word) (kind : ErrorKind)
+    → bytes_eq word (codes "--") ≡ false → long_of word ≡ Some (name, attached) → KnownOption name
+    → settle_fault line.rules false (kept given pending) ≡ kind ∷ [] → Stops (stand given pending waiting met false) word
+option_stops given pending waiting met word name None kind no_end long known fault =
+    record { kind = kind; fails = rw (no_subcommand waiting word, no_end, long, known.by_long, known.takes, fault) refl }
+option_stops given pending waiting met word name (Some v) kind no_end long known fault =
+    record { kind = kind; fails = rw (no_subcommand waiting word, no_end, long, known.by_long, known.takes, fault) refl }
+
+-- ---- a value for an option that waits for it
+
+pub value_goes : (given : List Given) (name : Word) (met : Bool) (word : Word) → KnownOption name
+    → (let held = kept given (Some (name, [])) in
+    IsMet false (option name) (if met then 2 else 1) word held (plain_word line.rules (option name) word held))
+    → Goes (stand given (Some (name, [])) (option name) met false) word (stand given (Some (name, word ∷ [])) idle met false)
+unfolding walked
+value_goes given name met word known v =
+    let same : bytes_eq name name ≡ true = (bytes_eq-Decides name name).1 refl in
+    record {
+      passes = rw (v.no_fault, v.meets) refl;
+      leads = rw (v.meets, known.known.by_id, known.named, same, known.most) refl;
+    }
