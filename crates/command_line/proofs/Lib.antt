@@ -2,5 +2,6 @@ pub mod AskedLemmas
 pub mod GivenLemmas
 pub mod LineLemmas
 pub mod NumberLemmas
+pub mod ReadLemmas
 pub mod SortLemmas
 pub mod StepLemmas

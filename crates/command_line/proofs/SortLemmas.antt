@@ -17,12 +17,12 @@ pub record IsNoFlag (word : Word) : Type 0 where
 
 -- a plain word; `-`; `--`; `--` and more; a hyphen and more
 pub data Sort (word : Word) : Type 0 where
-  alone : IsNoFlag word → piece_of word ≡ plain word → begins_with word (codes "-") ≡ false → Sort word
-  hyphen : IsNoFlag word → piece_of word ≡ hyphened → begins_with word (codes "-") ≡ true → IsWrong word → Sort word
-  ends : word ≡ codes "--" → Sort word
-  long : (text : Word) → bytes_eq word (codes "--") ≡ false → long_of word ≡ Some (name_and_value text)
+  plain_word : IsNoFlag word → piece_of word ≡ plain word → begins_with word (codes "-") ≡ false → Sort word
+  hyphen_word : IsNoFlag word → piece_of word ≡ hyphened → begins_with word (codes "-") ≡ true → IsWrong word → Sort word
+  end_word : word ≡ codes "--" → Sort word
+  long_word : (text : Word) → bytes_eq word (codes "--") ≡ false → long_of word ≡ Some (name_and_value text)
       → piece_of word ≡ long_piece text → begins_with word (codes "-") ≡ true → Sort word
-  short : (flags : Word) → bytes_eq word (codes "--") ≡ false → long_of word ≡ None → short_of word ≡ Some flags
+  short_word : (flags : Word) → bytes_eq word (codes "--") ≡ false → long_of word ≡ None → short_of word ≡ Some flags
       → piece_of word ≡ hyphened → begins_with word (codes "-") ≡ true → IsWrong word → Sort word
 
 and_false : (a b c : Bool) → (a && (b && (false && c))) ≡ false
@@ -37,8 +37,8 @@ wrong rest = record {
 }
 
 two_hyphens : (rest : Word) → Sort (45 ∷ 45 ∷ rest)
-two_hyphens [] = ends refl
-two_hyphens (x ∷ rest) = long (x ∷ rest) refl refl refl refl
+two_hyphens [] = end_word refl
+two_hyphens (x ∷ rest) = long_word (x ∷ rest) refl refl refl refl
 
 -- a byte that is no hyphen, from either side
 record IsOther (x : ℕ) : Type 0 where
@@ -52,15 +52,15 @@ other x = elim (cases_Bool (nat_eq x 45)) [
 ]
 
 one_hyphen : (rest : Word) → Sort (45 ∷ rest)
-one_hyphen [] = hyphen (record { no_end = refl; no_long = refl; no_short = refl }) refl refl (wrong [])
+one_hyphen [] = hyphen_word (record { no_end = refl; no_long = refl; no_short = refl }) refl refl (wrong [])
 one_hyphen (x ∷ rest) = elim (other x) [
   | inl is ↦ subst (λ y. Sort (45 ∷ y ∷ rest)) (sym is) (two_hyphens rest)
-  | inr o ↦ short (x ∷ rest) (rw o.left refl) (rw o.left refl) (rw o.left refl) (rw (o.left, o.right) refl) refl (wrong (x ∷ rest))
+  | inr o ↦ short_word (x ∷ rest) (rw o.left refl) (rw o.left refl) (rw o.left refl) (rw (o.left, o.right) refl) refl (wrong (x ∷ rest))
 ]
 
 pub sort_of : (word : Word) → Sort word
-sort_of [] = alone (record { no_end = refl; no_long = refl; no_short = refl }) refl refl
+sort_of [] = plain_word (record { no_end = refl; no_long = refl; no_short = refl }) refl refl
 sort_of (x ∷ rest) = elim (other x) [
   | inl is ↦ subst (λ y. Sort (y ∷ rest)) (sym is) (one_hyphen rest)
-  | inr o ↦ alone (record { no_end = rw o.left refl; no_long = rw o.left refl; no_short = rw o.left refl }) (rw (o.left, o.right) refl) (rw o.right refl)
+  | inr o ↦ plain_word (record { no_end = rw o.left refl; no_long = rw o.left refl; no_short = rw o.left refl }) (rw (o.left, o.right) refl) (rw o.right refl)
 ]

@@ -129,17 +129,17 @@ command_goes given all pending trailing word v fault after =
       (command_held word (kept given pending) all after) (or_false trailing));
     }
 
-pub command_stops : (given : List Given) (pending : Option (Text × List Text)) (trailing : Bool) (word : Word)
-    → IsMet trailing idle 1 word (kept given pending) (kept given pending, positional_value) → settle_fault line.rules false (kept given pending) ≡ ArgumentConflict ∷ []
-    → Stops (stand given pending idle false trailing) word
-command_stops given pending trailing word v fault =
-    record { kind = ArgumentConflict; fails = rw (v.no_fault, v.meets) (to_command (kept given pending) ∙ fault) }
+-- it is refused where what is pending can't be used
+pub command_stops : (given : List Given) (pending : Option (Text × List Text)) (waiting : Waiting) (trailing : Bool) (word : Word) (kind : ErrorKind)
+    → IsMet trailing waiting 1 word (kept given pending) (kept given pending, positional_value) → settle_fault line.rules false (kept given pending) ≡ kind ∷ []
+    → Stops (stand given pending waiting false trailing) word
+command_stops given pending waiting trailing word kind v fault =
+    record { kind = kind; fails = rw (v.no_fault, v.meets) (to_command (kept given pending) ∙ fault) }
 
 -- a second one is refused
-pub second_stops : (given : List Given) (pending : Option (Text × List Text)) (trailing : Bool) (word : Word)
-    → IsMet trailing idle 2 word (kept given pending) (kept given pending, positional_value) → Stops (stand given pending idle true trailing) word
-second_stops given pending trailing word v =
-    record { kind = UnknownArgument; fails = rw (v.no_fault, v.meets) refl }
+pub second_stops : (given : List Given) (pending : Option (Text × List Text)) (waiting : Waiting) (trailing : Bool) (word : Word)
+    → IsMet trailing waiting 2 word (kept given pending) (kept given pending, positional_value) → Stops (stand given pending waiting true trailing) word
+second_stops given pending waiting trailing word v = record { kind = UnknownArgument; fails = rw (v.no_fault, v.meets) refl }
 
 -- ---- `--`
 
