@@ -14,7 +14,7 @@ use Rattle.command_line.specs.Found.{request_at}
 use Rattle.command_line.specs.Words.{Given, Word, asked_by, give, given_alone, given_by, given_in, hyphened, is_equals_sign, is_option, piece_of, plain, begins_with, long_piece}
 use Rattle.command_line.proofs.GivenLemmas.{IsOnce, has, nothing_once, once_more, some_value, values_of-append, values_of-here}
 use Rattle.command_line.proofs.AskedLemmas.{Dead, IsName, IsWrong, asked_at, rows, wrong_dead}
-use Rattle.command_line.proofs.SortLemmas.{IsNoFlag, Sort, end_word, hyphen_word, long_word, plain_word, short_word, sort_of}
+use Rattle.command_line.proofs.SortLemmas.{IsNoFlag, LongParts, Sort, long_parts, name_alone, name_with_value, end_word, hyphen_word, long_word, plain_word, short_word, sort_of}
 use Rattle.command_line.proofs.LineLemmas.{Known, KnownOption, OptionOrNone, first_use, Settling, clash, command_known, given_twice, joins, kept, known_option, line, option_or_none, settled_already, settling, unknown, waiting_fault}
 use Rattle.command_line.proofs.StepLemmas.{Goes, IsMet, Stops, command_goes, ShortWord, command_stops, ends_options, ends_waiting, option_goes, option_stops, refused_short, second_stops, short_stops, short_word_of, stand, unknown_stops, value_goes, value_short, valued_goes, valued_stops, value_plain, value_trailing}
 
@@ -226,8 +226,51 @@ more_words word rest next (end_word is) = subst (λ w. Reads (w ∷ rest)) (sym 
   idly = λ given all pending met s m. ap asked_in (found_on _ _ (codes "--") rest (ends_options given pending met)) ∙ trailing_reads rest given all pending met s m;
   waiting = λ given name met known named once m. ap asked_in (found_on _ _ (codes "--") rest (ends_waiting given _ name met) ∙ waiting_none rest given name met known.known);
 })
-more_words word rest next (long_word text no_end is_long piece starts) = ?
-more_words word rest next (short_word flags no_end no_long is_short piece starts wrong) = ?
+more_words word rest next (short_word flags no_end no_long is_short piece starts wrong) = record {
+  idly = λ given all pending met s m. elim (short_word_of idle (if met then 2 else 1) word flags given pending no_end no_long is_short) [
+    | refused_short fault ↦ ap asked_in (found_none _ word rest (short_stops given pending idle met word fault)) ∙ rw piece refl
+    | value_short v ↦ plain_reads word rest next given all pending met s m v
+    ∙ dead_with _ (given_in None rest) (wrong_dead (codes "command") word all named_command wrong) ∙ rw piece refl
+  ];
+  waiting = λ given name met known named once m.
+      elim (short_word_of (option name) (if met then 2 else 1) word flags given (Some (name, [])) no_end no_long is_short) [
+        | refused_short fault ↦ ap asked_in (found_none _ word rest (short_stops given _ (option name) met word fault)) ∙ rw starts refl
+        | value_short v ↦ value_reads word rest next given name met known named once m v
+        ∙ dead_with _ (given_in None rest) (wrong_dead name word given named wrong) ∙ rw starts refl
+      ];
+}
+more_words word rest next (long_word text no_end is_long piece starts) = elim (long_parts text) [
+  | name_with_value name value same shape ↦ elim (option_or_none name) [
+    | known_option is_one known named ↦ record {
+      idly = λ given all pending met s m. valued_reads word rest next given all pending met name value s m no_end (is_long ∙ ap (λ p. Some p) same) known named
+          ∙ with_given all name value (given_in None rest) ∙ rw (piece, shape, is_one) refl;
+      waiting = λ given waiting met known_waiting named_waiting once m. ap asked_in (found_none _ word rest
+          (option_stops given (Some (waiting, [])) (option waiting) met word name (Some value) _ no_end (is_long ∙ ap (λ p. Some p) same) known (waiting_fault waiting given known_waiting.known)))
+          ∙ rw starts refl;
+    }
+    | unknown is_none no_rule ↦ record {
+      idly = λ given all pending met s m. ap asked_in (found_none _ word rest (unknown_stops given pending idle met word name (Some value) no_end (is_long ∙ ap (λ p. Some p) same) no_rule))
+          ∙ rw (piece, shape, is_none) refl;
+      waiting = λ given waiting met known_waiting named_waiting once m. ap asked_in (found_none _ word rest
+          (unknown_stops given _ (option waiting) met word name (Some value) no_end (is_long ∙ ap (λ p. Some p) same) no_rule)) ∙ rw starts refl;
+    }
+  ]
+  | name_alone same shape ↦ elim (option_or_none text) [
+    | known_option is_one known named ↦ record {
+      idly = λ given all pending met s m. option_reads word rest next given all pending met text s m no_end (is_long ∙ ap (λ p. Some p) same) known named
+          ∙ rw (piece, shape, is_one) refl;
+      waiting = λ given waiting met known_waiting named_waiting once m. ap asked_in (found_none _ word rest
+          (option_stops given (Some (waiting, [])) (option waiting) met word text None _ no_end (is_long ∙ ap (λ p. Some p) same) known (waiting_fault waiting given known_waiting.known)))
+          ∙ rw starts refl;
+    }
+    | unknown is_none no_rule ↦ record {
+      idly = λ given all pending met s m. ap asked_in (found_none _ word rest (unknown_stops given pending idle met word text None no_end (is_long ∙ ap (λ p. Some p) same) no_rule))
+          ∙ rw (piece, shape, is_none) refl;
+      waiting = λ given waiting met known_waiting named_waiting once m. ap asked_in (found_none _ word rest
+          (unknown_stops given _ (option waiting) met word text None no_end (is_long ∙ ap (λ p. Some p) same) no_rule)) ∙ rw starts refl;
+    }
+  ]
+]
 
 reads : (words : List Word) → Reads words
 reads [] = no_words

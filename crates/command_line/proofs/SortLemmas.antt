@@ -1,12 +1,13 @@
 -- The sorts of words, by their first two bytes.
-use Rattle.std.proofs.Common.{◌≡◌, ◌∙◌, ◌&&◌, ◌⊎◌, ℕ, Bool, cond, true, false, List, [], ◌∷◌, length, Option, Some, None, ap, refl, sym, subst, codes, arith, inl, inr, nat_eq, nat_le, eq-eqb}
-use Rattle.std.specs.List.{list_all}
+use Rattle.std.proofs.Common.{◌≡◌, ◌∙◌, ◌&&◌, ◌⊎◌, ℕ, Bool, cond, true, false, true≢false, List, [], ◌∷◌, length, Option, Some, None, ap, refl, sym, subst, codes, arith, inl, inr, nat_eq, nat_le, eq-eqb}
+use Rattle.std.specs.List.{after_first, before_first, list_all, list_any}
 use Rattle.std.specs.Str.{bytes_eq}
 use Rattle.std.specs.Char.{is_ascii_digit}
 use Rattle.std.proofs.lemmas.Bool.{cases_Bool, eqb-false, eqb-true, ne_eqb}
 use Rattle.std.proofs.lemmas.Slice.Eq.{bytes_eq-Decides}
+use Rattle.std.proofs.Math.Numerals.{one-add}
 use Rattle.clap.specs.Lexer.{long_of, name_and_value, short_of}
-use Rattle.command_line.specs.Words.{Word, begins_with, hyphened, long_piece, number_of, piece_of, plain}
+use Rattle.command_line.specs.Words.{Word, begins_with, hyphened, is_equals_sign, long_piece, number_of, option, option_with, piece_of, plain}
 use Rattle.command_line.proofs.AskedLemmas.{IsWrong}
 
 -- the word looks like no flag
@@ -63,4 +64,22 @@ sort_of [] = plain_word (record { no_end = refl; no_long = refl; no_short = refl
 sort_of (x ∷ rest) = elim (other x) [
   | inl is ↦ subst (λ y. Sort (y ∷ rest)) (sym is) (one_hyphen rest)
   | inr o ↦ plain_word (record { no_end = rw o.left refl; no_long = rw o.left refl; no_short = rw o.left refl }) (rw (o.left, o.right) refl) (rw o.right refl)
+]
+
+-- what follows `--` in a word: a name and a value, or a name alone
+pub data LongParts (text : Word) : Type 0 where
+  name_with_value : (name value : Word) → name_and_value text ≡ (name, Some value) → long_piece text ≡ option_with name value → LongParts text
+  name_alone : name_and_value text ≡ (text, None) → long_piece text ≡ option text → LongParts text
+
+no_sign : (text : Word) → list_any is_equals_sign text ≡ false → before_first is_equals_sign text ≡ text
+no_sign [] none = refl
+no_sign (x ∷ text) none = elim (cases_Bool (is_equals_sign x)) [
+  | inl is ↦ absurd (true≢false (rw is at none))
+  | inr is ↦ rw (is, one-add) (ap (λ t. x ∷ t) (no_sign text (rw is at none)))
+]
+
+pub long_parts : (text : Word) → LongParts text
+long_parts text = elim (cases_Bool (list_any is_equals_sign text)) [
+  | inl some ↦ name_with_value (before_first is_equals_sign text) (after_first is_equals_sign text) (rw some refl) (rw some refl)
+  | inr none ↦ name_alone (rw none (ap (λ t. (t, None)) (no_sign text none))) (rw none refl)
 ]
