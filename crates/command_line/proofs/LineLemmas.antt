@@ -46,7 +46,7 @@ pub record KnownOption (name : Word) : Type 0 where
   pub takes : takes_values known.rule ≡ true
   pub most : most_values known.rule ≡ 1
 
-or_else-nil : (ks : Kinds) → or_else ks [] ≡ ks
+pub or_else-nil : (ks : Kinds) → or_else ks [] ≡ ks
 or_else-nil [] = refl
 or_else-nil (k ∷ ks) = refl
 

@@ -11,7 +11,7 @@ use Rattle.clap.specs.Faults.{settle_fault, turn_fault, walk_fault}
 use Rattle.clap.specs.Lexer.{long_of, name_and_value}
 use Rattle.command_line.specs.declared.request.Request.{Request}
 use Rattle.command_line.specs.Found.{request_at}
-use Rattle.command_line.specs.Words.{Given, Word, asked_by, give, given_alone, given_by, given_in, hyphened, is_equals_sign, is_option, piece_of, plain, begins_with, long_piece}
+use Rattle.command_line.specs.Words.{Given, Word, asked_by, begins_with, give, given_alone, given_in, hyphened, is_option, long_piece, piece_of, words_of}
 use Rattle.command_line.proofs.GivenLemmas.{IsOnce, has, nothing_once, once_more, some_value, values_of-append, values_of-here}
 use Rattle.command_line.proofs.AskedLemmas.{Dead, IsName, IsWrong, asked_at, rows, wrong_dead}
 use Rattle.command_line.proofs.SortLemmas.{IsNoFlag, LongParts, Sort, long_parts, name_alone, name_with_value, end_word, hyphen_word, long_word, plain_word, short_word, sort_of}
@@ -21,7 +21,7 @@ use Rattle.command_line.proofs.StepLemmas.{Goes, IsMet, Stops, command_goes, Sho
 -- ---- the whole walk
 
 -- the rows that are found, if nothing is refused
-abbrev found_by : Kinds → Held → Option (List Row)
+abbrev pub found_by : Kinds → Held → Option (List Row)
 found_by [] held = Some (settled line.rules held).rows
 found_by (k ∷ kinds) held = None
 
@@ -275,3 +275,8 @@ more_words word rest next (long_word text no_end is_long piece starts) = elim (l
 reads : (words : List Word) → Reads words
 reads [] = no_words
 reads (word ∷ rest) = more_words word rest (reads rest) (sort_of word)
+
+-- what a whole line asks for
+pub line_asks : (words : List Word) → asked_in (found (stand [] None idle false false) words) ≡ words_of words
+unfolding words_of
+line_asks words = (reads words).idly [] [] None false (settled_already [] nothing_once) not_met
