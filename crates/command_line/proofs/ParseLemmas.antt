@@ -1,11 +1,19 @@
 -- What a parse of the line answers, by what the words ask for.
-use Rattle.std.proofs.Common.{◌≡◌, ◌∙◌, ◌||◌, Bool, cond, true, false, List, [], ◌∷◌, Option, Some, None, ap, ap₂, refl, sym}
+use Rattle.std.proofs.Common.{◌≡◌, ◌∙◌, ◌||◌, Bool, cond, true, false, List, [], ◌∷◌, Option, Some, None, ap, ap₂, codes, inl, inr, refl, sym}
 use Rattle.std.specs.Prelude.{is_some}
 use Rattle.std.specs.List.{AllByRecursion, fold}
-use Rattle.clap.specs.Walk.{Held, Row, Rule, Text, Walk, first_of, has_row, idle, settled, walked, with_default}
-use Rattle.clap.specs.Kinds.{Kinds, or_else}
-use Rattle.clap.specs.Faults.{check_fault, default_fault, defaults_fault, entered_fault, fault_of, settle_fault, walk_fault}
-use Rattle.clap.specs.Simple.{App, built, entered, matches_of}
+use Rattle.clap.specs.Walk.{Held, Row, Rule, Text, Walk, first_of, has_row, idle, settled, walked, rows_of, with_default}
+use Rattle.clap.specs.Kinds.{HasKind, IsAmong, Kinds, or_else}
+use Rattle.clap.specs.Faults.{check_fault, default_fault, defaults_fault, entered_fault, fault_of, is_simple_and_free, settle_fault, walk_fault}
+use Rattle.clap.specs.Simple.{App, HasMatchesOf, built, entered, is_simple, matches_of}
+use Rattle.clap.specs.Matches.{first_value, found_of}
+use Rattle.clap.specs.Values.{kind_of}
+use Rattle.clap.specs.declared.error.Error.{Error}
+use Rattle.clap.specs.declared.parser.matches.ArgMatches.{ArgMatches}
+use Rattle.clap.specs.declared.parser.matches.Found.{Found}
+use Rattle.clap.proofs.WalkLemmas.{first_value-rows}
+use Rattle.command_line.specs.Unasked.{unasked_by}
+use Rattle.command_line.specs.declared.unasked.Unasked.TheVariants.{Memory, Usage}
 use Rattle.clap.specs.declared.error.kind.ErrorKind.{ErrorKind}
 use Rattle.command_line.specs.Line.{line_app}
 use Rattle.command_line.specs.Found.{request_at}
@@ -80,3 +88,26 @@ pub line_refused : (words : List Word) (kind : ErrorKind) (more : Kinds) → fau
 line_refused words kind more fails =
     let found_nothing : found start words ≡ None = ap (λ kinds. found_by kinds (end_of words)) (sym (fault_is words) ∙ fails) in
     sym (line_asks words) ∙ ap asked_in found_nothing
+
+-- ---- the answers of a parse
+
+request_found : (f : Found) → request_at (first_value f) ≡ request_at (λ name. first_of name (rows_of f))
+request_found f = rw (first_value-rows f (codes "command"), first_value-rows f (codes "budget"), first_value-rows f (codes "seed"), first_value-rows f (codes "size")) refl
+
+pub parsed_asks : (words : List Word) (a : App) (m : ArgMatches) → a ≡ line_app → (is_simple_and_free a ≡ true → fault_of a words ≡ [])
+    → HasMatchesOf a words m → request_at (first_value (found_of m)) ≡ words_of words
+parsed_asks words a m is passes has =
+    let passed : fault_of line_app words ≡ [] = ap (λ x. fault_of x words) (sym is) ∙ passes (ap is_simple_and_free is) in
+    let matches : rows_of (found_of m) ≡ matches_of line_app words = (has (ap is_simple is)).0 ∙ ap (λ x. matches_of x words) is in
+    request_found (found_of m) ∙ ap (λ rs. request_at (λ name. first_of name rs)) matches ∙ line_reads words passed
+
+pub refused_asks : (words : List Word) (a : App) (e : Error) → a ≡ line_app → (is_simple_and_free a ≡ true → HasKind (fault_of a words) e)
+    → unasked_by (kind_of e) ≡ Usage → words_of words ≡ None
+refused_asks words a e is fails usage = elim (fails (ap is_simple_and_free is)) [
+  | inl memory ↦ let wants : unasked_by (kind_of e) ≡ Memory = ap unasked_by memory in cc
+  | inr among ↦ some_kind (fault_of a words) refl among
+]
+  where
+    some_kind : (kinds : Kinds) → fault_of a words ≡ kinds → IsAmong (kind_of e) kinds → words_of words ≡ None
+    some_kind [] same among = absurd among
+    some_kind (k ∷ kinds) same among = line_refused words k kinds (ap (λ x. fault_of x words) (sym is) ∙ same)
