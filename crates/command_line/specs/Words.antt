@@ -102,18 +102,19 @@ is_numeral word = nat_le 1 (length word) && (nat_le (length word) 19 && list_all
 abbrev pub number_of : Word → Option ℕ
 number_of word = if is_numeral word then Some (digits_value 10 word) else None
 
-abbrev pub number_within : ℕ → ℕ → Word → Option ℕ
-number_within least most word = option_and_then (λ n.
-    if nat_le least n && nat_le n most then Some n else None) (number_of word)
+-- the same where it is one of 1 to `most`
+abbrev pub number_up_to : ℕ → Word → Option ℕ
+number_up_to most word = option_and_then (λ n.
+    if nat_le 1 n && nat_le n most then Some n else None) (number_of word)
 
 abbrev pub budget_of : Word → Option ℕ
-budget_of = number_within 1 1000000
+budget_of = number_up_to 1000000
 
 abbrev pub seed_of : Word → Option (Option ℕ)
 seed_of word = option_map (λ n. Some n) (number_of word)
 
 abbrev pub size_of : Word → Option ℕ
-size_of = number_within 1 1000
+size_of = number_up_to 1000
 
 -- what stands for an option that isn't given
 abbrev pub budget_if_absent : ℕ

@@ -6,12 +6,9 @@ mod request;
 mod unasked;
 mod words;
 
-pub use request::{
-    BUDGET, Command, MOST_BUDGET, MOST_SIZE, Request, SIZE,
-};
+pub use request::{Command, Request};
 pub use unasked::Unasked;
 pub use words::words_of;
-
 
 #[cfg(test)]
 mod tests;

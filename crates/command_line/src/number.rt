@@ -2,7 +2,7 @@ ghost use Rattle.std.specs.Prelude.{◌≡◌, option_map};
 ghost use Rattle.std.specs.List.{list_all};
 ghost use Rattle.std.specs.Char.{is_ascii_digit};
 ghost use Rattle.command_line.specs.Found.{read_or};
-ghost use Rattle.command_line.specs.Words.{is_numeral, number_of, number_within};
+ghost use Rattle.command_line.specs.Words.{is_numeral, number_of, number_up_to};
 
 // Fewer digits than the largest u64 has, so that each number of so many digits is one.
 const MOST_DIGITS: usize = 19;
@@ -30,20 +30,19 @@ pub(crate) fn read_number(text: &str) -> Option<u64>
     text.parse::<u64>().ok()
 }
 
-/// The number that the text spells, if it lies between the limits.
-fn read_within(text: &str, least: u64, most: u64) -> Option<u64>
-    ensures { result ≡ number_within least most text.now }
+// The number that the text spells, if it is one of 1 to `most`.
+fn read_up_to(text: &str, most: u64) -> Option<u64>
+    ensures { result ≡ number_up_to most text.now }
 {
-    read_number(text).filter(|number| (least..=most).contains(number))
+    read_number(text).filter(|number| (1..=most).contains(number))
 }
 
-/// The number that the text spells, if it lies between the limits, or the default for no text.
-pub(crate) fn read_number_or(text: Option<&str>, default: u64, least: u64, most: u64) -> Option<u64>
-    ensures { result
-        ≡ read_or default (number_within least most) (option_map (λ t. t.now) text.entry) }
+/// The number that the text spells, if it is one of 1 to `most`, or the default for no text.
+pub(crate) fn read_number_or(text: Option<&str>, default: u64, most: u64) -> Option<u64>
+    ensures { result ≡ read_or default (number_up_to most) (option_map (λ t. t.now) text.entry) }
 {
     match text {
-        Some(text) => read_within(text, least, most),
+        Some(text) => read_up_to(text, most),
         None => Some(default),
     }
 }

@@ -1,18 +1,6 @@
 ghost use Rattle.std.specs.Prelude.{◌≡◌};
 ghost use Rattle.command_line.specs.Words.{command_of};
 
-/// The search nodes that a plan may take where no budget is given.
-pub const BUDGET: u64 = 100_000;
-
-/// The largest budget.
-pub const MOST_BUDGET: u64 = 1_000_000;
-
-/// The horizons of a drill where no size is given.
-pub const SIZE: u32 = 40;
-
-/// The largest size of a drill.
-pub const MOST_SIZE: u32 = 1_000;
-
 /// What the program is to do.
 #[derive(Clone, Copy, Debug, PartialEq, Eq)]
 pub enum Command {

@@ -1,8 +1,9 @@
-use crate::{BUDGET, Command, Request, SIZE, Unasked, words_of};
-use std::alloc::{AllocError, Global};
+use crate::{Command, Request, Unasked, words_of};
+use hs_base::Memory;
+use std::alloc::Global;
 
 // The words of a line, cut at blanks.
-fn words_in(alloc: Global, line: &str) -> Result<Vec<String>, AllocError> {
+fn words_in(alloc: Global, line: &str) -> Result<Vec<String>, Memory> {
     let mut words = Vec::new(alloc);
     for word in line.split(' ') {
         words.push(String::from_str(alloc, word)?)?;
@@ -18,9 +19,9 @@ fn asked(alloc: Global, line: &str) -> Result<Request, Unasked> {
 fn lines_that_are_read(rt: HostRuntime) {
     let plain = Request {
         command: Command::Print,
-        budget: BUDGET,
+        budget: 100_000,
         seed: None,
-        size: SIZE,
+        size: 40,
     };
     let seeded = Request {
         seed: Some(7),

@@ -2,7 +2,6 @@ ghost use Rattle.std.specs.Prelude.{◌≡◌};
 
 use clap::error::ErrorKind;
 use hs_base::Memory;
-use std::alloc::AllocError;
 
 /// Why the words gave no request.
 #[derive(Clone, Copy, Debug, PartialEq, Eq)]
@@ -19,16 +18,6 @@ impl From<Memory> for Unasked {
     ghost from_gives = { λ _ unasked. unasked ≡ NoMemory };
 
     fn from(_: Memory) -> Unasked {
-        Unasked::Memory
-    }
-}
-
-impl From<AllocError> for Unasked {
-    ghost use Rattle.command_line.specs.declared.unasked.Unasked.TheVariants.{Memory as NoMemory};
-
-    ghost from_gives = { λ _ unasked. unasked ≡ NoMemory };
-
-    fn from(_: AllocError) -> Unasked {
         Unasked::Memory
     }
 }

@@ -20,4 +20,4 @@ returns c =
     let one = c.in_ok-arg.ensures.shape (search rules) ∙ ap₂ with_rule bare command_is in
     let two = c.in_ok-arg-2.ensures.shape (search rules) ∙ ap₂ with_rule one budget_is in
     let three = c.in_ok-arg-3.ensures.shape (search rules) ∙ ap₂ with_rule two seed_is in
-    IfOk-weaker c.arg-4.result _ _ (λ r added. added.shape (search rules) ∙ ap₂ with_rule three size_is) c.arg-4.ensures
+    c.in_ok-command.ensures.shape (search rules) ∙ ap₂ with_rule three size_is
