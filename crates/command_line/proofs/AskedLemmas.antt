@@ -26,6 +26,7 @@ record Unread (name : Word) (given : List Given) : Type 0 where
   seed : name ≡ codes "seed" → once_or seed_if_absent seed_of (values_of (codes "seed") given) ≡ None
   size : name ≡ codes "size" → once_or size_if_absent size_of (values_of (codes "size") given) ≡ None
 
+-- and so nothing is asked
 unread : (name : Word) (given : List Given) → IsName name → Unread name given → asked_by given ≡ None
 unread name given named u = elim named [
   | inl is ↦ rw (u.command is) refl
@@ -40,6 +41,7 @@ twice_dead name given named twice = record { none = λ more. unread name (given 
   where
     long : (n : Word) (more : List Given) → name ≡ n → 2 ≤ length (values_of n (given ++ more))
     long n more is = rw (← is, values_of-append name given more, length-append) (omega arith)
+
     many : (more : List Given) → Unread name (given ++ more)
     many more = record {
       command = λ is. once_many command_of _ (long _ more is);
@@ -62,6 +64,7 @@ wrong_dead name value given named wrong = record { none = λ more. unread name (
     parts n more is = subst (λ m. values_of m ((given ++ (name, value) ∷ []) ++ more) ≡ values_of m given ++ value ∷ values_of m more) is
         (ap (values_of name) (append_assoc given ((name, value) ∷ []) more) ∙ values_of-append name given ((name, value) ∷ more)
         ∙ ap (λ vs. values_of name given ++ vs) (values_of-here name value more))
+
     bad : (more : List Given) → Unread name ((given ++ (name, value) ∷ []) ++ more)
     bad more =
         let budget : budget_of value ≡ None = rw wrong.number refl in
@@ -82,9 +85,11 @@ wrong_dead name value given named wrong = record { none = λ more. unread name (
 abbrev pub row : Given → Row
 row g = record { id = g.0; values = g.1 ∷ []; count = None; source = Some CommandLine; reading = AsWritten }
 
+-- what it found for a list of values
 abbrev pub rows : List Given → List Row
 rows = map row
 
+-- the first value of a name is what its row has
 first : (name : Word) (given : List Given) → first_of name (rows given) ≡ slice_get (values_of name given) 0
 first name [] = refl
 first name (g ∷ given) = elim (cases_Bool (is_named name g)) [
@@ -95,8 +100,12 @@ first name (g ∷ given) = elim (cases_Bool (is_named name g)) [
 -- what the rows of values that stand once ask for
 pub asked_at : (given : List Given) → IsOnce given → request_at (λ name. first_of name (rows given)) ≡ asked_by given
 asked_at given at_most = rw (
-  first (codes "command") given, first (codes "budget") given, first (codes "seed") given, first (codes "size") given,
+  first (codes "command") given,
+  first (codes "budget") given,
+  first (codes "seed") given,
+  first (codes "size") given,
   ← once_first command_of _ (at_most.each (codes "command")),
   ← once_or_first budget_of budget_if_absent _ (at_most.each (codes "budget")),
   ← once_or_first seed_of seed_if_absent _ (at_most.each (codes "seed")),
-  ← once_or_first size_of size_if_absent _ (at_most.each (codes "size"))) refl
+  ← once_or_first size_of size_if_absent _ (at_most.each (codes "size")),
+) refl

@@ -12,10 +12,6 @@ use Rattle.command_line.specs.Words.{Given, Word, asked_by, budget_if_absent, bu
 
 -- ---- a request wants all its parts
 
-module _ (command : Option Command) (budget : Option ℕ) (seed : Option (Option ℕ)) (size : Option ℕ) where
-  no_command : request_of None budget seed size ≡ None
-  no_command = refl
-
 pub no_budget : (command : Option Command) (seed : Option (Option ℕ)) (size : Option ℕ) → request_of command None seed size ≡ None
 no_budget None seed size = refl
 no_budget (Some c) seed size = refl
@@ -33,12 +29,15 @@ no_size (Some c) (Some b) (Some s) = refl
 
 -- ---- the values of a name
 
+-- the value stands under the name
 abbrev pub is_named : Word → Given → Bool
 is_named name g = bytes_eq g.0 name
 
+-- the name is given
 abbrev pub has : Word → List Given → Bool
 has name given = list_any (is_named name) given
 
+-- the values of two lists, one after the other
 pub values_of-append : (name : Word) (a b : List Given) → values_of name (a ++ b) ≡ values_of name a ++ values_of name b
 values_of-append name [] b = refl
 values_of-append name (g ∷ a) b = go (is_named name g) (values_of-append name a b)
@@ -53,10 +52,11 @@ values_of-append name (g ∷ a) b = go (is_named name g) (values_of-append name 
 pub values_of-here : (name value : Word) (more : List Given) → values_of name ((name, value) ∷ more) ≡ value ∷ values_of name more
 values_of-here name value more = rw ((bytes_eq-Decides name name).1 refl) refl
 
+-- and only there
 pub values_of-other : (name other value : Word) → bytes_eq other name ≡ false → values_of name ((other, value) ∷ []) ≡ []
 values_of-other name other value e = rw e refl
 
--- a name that isn't given has no value, and one that is has one
+-- a name that isn't given has no value
 pub no_values : (name : Word) (given : List Given) → has name given ≡ false → values_of name given ≡ []
 no_values name [] e = refl
 no_values name (g ∷ given) e = elim (cases_Bool (is_named name g)) [
@@ -64,6 +64,7 @@ no_values name (g ∷ given) e = elim (cases_Bool (is_named name g)) [
   | inr is ↦ rw is (no_values name given (rw is at e))
 ]
 
+-- one that is given has one
 pub some_value : (name : Word) (given : List Given) → has name given ≡ true → 1 ≤ length (values_of name given)
 some_value name [] e = absurd (true≢false (sym e))
 some_value name (g ∷ given) e = elim (cases_Bool (is_named name g)) [
@@ -75,6 +76,7 @@ some_value name (g ∷ given) e = elim (cases_Bool (is_named name g)) [
 pub record IsOnce (given : List Given) : Type 0 where
   pub each : (name : Word) → length (values_of name given) ≤ 1
 
+-- no name is given by no values
 pub nothing_once : IsOnce []
 nothing_once = record { each = λ name. omega arith }
 
@@ -92,6 +94,7 @@ once_more given g once fresh = record { each = λ name. rw (values_of-append nam
 -- ---- lists of values that are read as nothing
 
 module _ {X : Type 0} (read : Word → Option X) where
+  -- more values than one
   pub once_many : (values : List Word) → 2 ≤ length values → once read values ≡ None
   once_many [] h = absurd (omega arith)
   once_many (v ∷ []) h = absurd (omega arith)
@@ -101,6 +104,7 @@ module _ {X : Type 0} (read : Word → Option X) where
   once_or_many default [] h = absurd (omega arith)
   once_or_many default (v ∷ values) h = once_many (v ∷ values) h
 
+  -- a value that isn't read
   pub once_bad : (before : List Word) (value : Word) (after : List Word) → read value ≡ None → once read (before ++ value ∷ after) ≡ None
   once_bad [] value [] bad = bad
   once_bad [] value (w ∷ after) bad = refl

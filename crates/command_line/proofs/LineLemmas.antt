@@ -46,34 +46,47 @@ pub record KnownOption (name : Word) : Type 0 where
   pub takes : takes_values known.rule ≡ true
   pub most : most_values known.rule ≡ 1
 
+-- no step comes after
 pub or_else-nil : (ks : Kinds) → or_else ks [] ≡ ks
 or_else-nil [] = refl
 or_else-nil (k ∷ ks) = refl
 
+-- the command's argument
 abbrev pub command_rule : Rule
 command_rule = with_index 1 (filled (new_rule (codes "command")))
 
+-- it is one of the line's arguments, and so are the three options
 pub command_known : Known (codes "command")
 command_known = record { rule = _; by_id = refl; none = λ rs. refl; one = λ value rs. or_else-nil (repeat_fault false (codes "command") rs); used = λ value rs. refl }
 
 pub budget_known : KnownOption (codes "budget")
 budget_known = record {
   known = record { rule = _; by_id = refl; none = λ rs. refl; one = λ value rs. or_else-nil (repeat_fault false (codes "budget") rs); used = λ value rs. refl };
-  named = refl; by_long = refl; takes = refl; most = refl;
+  named = refl;
+  by_long = refl;
+  takes = refl;
+  most = refl;
 }
 
 pub seed_known : KnownOption (codes "seed")
 seed_known = record {
   known = record { rule = _; by_id = refl; none = λ rs. refl; one = λ value rs. or_else-nil (repeat_fault false (codes "seed") rs); used = λ value rs. refl };
-  named = refl; by_long = refl; takes = refl; most = refl;
+  named = refl;
+  by_long = refl;
+  takes = refl;
+  most = refl;
 }
 
 pub size_known : KnownOption (codes "size")
 size_known = record {
   known = record { rule = _; by_id = refl; none = λ rs. refl; one = λ value rs. or_else-nil (repeat_fault false (codes "size") rs); used = λ value rs. refl };
-  named = refl; by_long = refl; takes = refl; most = refl;
+  named = refl;
+  by_long = refl;
+  takes = refl;
+  most = refl;
 }
 
+-- two words differ either way round
 flipped : (a b : Word) → bytes_eq a b ≡ false → bytes_eq b a ≡ false
 flipped a b differ = elim (cases_Bool (bytes_eq b a)) [
   | inl same ↦ absurd (true≢false (sym ((bytes_eq-Decides a b).1 (sym ((bytes_eq-Decides b a).0 same))) ∙ differ))
@@ -85,6 +98,7 @@ pub data OptionOrNone (name : Word) : Type 0 where
   known_option : is_option name ≡ true → KnownOption name → IsName name → OptionOrNone name
   unknown : is_option name ≡ false → arg_by_long line.rules name ≡ None → OptionOrNone name
 
+-- which of the two it is
 pub option_or_none : (name : Word) → OptionOrNone name
 option_or_none name = elim (cases_Bool (bytes_eq name (codes "budget"))) [
   | inl b ↦ known_option (rw b refl) (subst KnownOption (sym ((bytes_eq-Decides name _).0 b)) budget_known) (inr (inl ((bytes_eq-Decides name _).0 b)))
@@ -102,13 +116,16 @@ option_or_none name = elim (cases_Bool (bytes_eq name (codes "budget"))) [
 
 -- ---- values that were found, and one that is still to be used
 
+-- rows for some values, and what is pending
 abbrev pub kept : List Given → Option (Text × List Text) → Held
 kept given pending = record { rows = rows given; pending = pending; skip = 0 }
 
+-- a name has a row where it is given
 has_row-rows : (name : Word) (given : List Given) → has_row name (rows given) ≡ has name given
 has_row-rows name [] = refl
 has_row-rows name (g ∷ given) = ap (λ b. bytes_eq g.0 name || b) (has_row-rows name given)
 
+-- a new name's row joins at the end
 at_row-fresh : (name : Word) (change : Row → List Row) (missing : List Row) (given : List Given) → has name given ≡ false
     → at_row name change missing (rows given) ≡ rows given ++ missing
 at_row-fresh name change missing [] fresh = refl
@@ -126,9 +143,11 @@ first_use name value given fresh =
     ∙ at_row-fresh name (more_values CommandLine (value ∷ [])) (row (name, value) ∷ []) given fresh
     ∙ sym (map-append row given ((name, value) ∷ []))
 
+-- a new name is no repetition
 pub repeat-fresh : (name : Word) (given : List Given) → has name given ≡ false → repeat_fault false name (rows given) ≡ []
 repeat-fresh name given fresh = rw (has_row-rows name given, fresh) refl
 
+-- a name that is given already is one
 pub repeat-clash : (name : Word) (given : List Given) → has name given ≡ true → repeat_fault false name (rows given) ≡ ArgumentConflict ∷ []
 repeat-clash name given stands = rw (has_row-rows name given, stands) refl
 
@@ -138,23 +157,25 @@ pub data Settling (held : Held) (given : List Given) : Type 0 where
   joins : settle_fault line.rules false held ≡ [] → settled line.rules held ≡ kept given None → IsOnce given → Settling held given
   clash : settle_fault line.rules false held ≡ ArgumentConflict ∷ [] → Dead given → Settling held given
 
+-- where nothing is pending, nothing is to be settled
 pub settled_already : (given : List Given) → IsOnce given → Settling (kept given None) given
 settled_already given once = joins refl refl once
 
--- a name that is given twice
+-- nothing is asked where a name is given twice
 pub given_twice : (name value : Word) (given : List Given) → IsName name → has name given ≡ true → Dead (given ++ (name, value) ∷ [])
 given_twice name value given named stands = twice_dead name (given ++ (name, value) ∷ []) named
     (rw (values_of-append name given ((name, value) ∷ []), values_of-here name value [], length-append) (omega (arith, some_value name given stands)))
 
+-- a pending value joins the others, if its name is new
 pub settling : (name value : Word) (given : List Given) → Known name → IsName name → IsOnce given
     → Settling (kept given (Some (name, value ∷ []))) (given ++ (name, value) ∷ [])
 settling name value given known named once =
     let fault : settle_fault line.rules false (kept given (Some (name, value ∷ []))) ≡ repeat_fault false name (rows given)
-        = rw known.by_id (known.one value (rows given)) in
+    = rw known.by_id (known.one value (rows given)) in
     elim (cases_Bool (has name given)) [
       | inl is ↦ clash (fault ∙ repeat-clash name given is) (given_twice name value given named is)
       | inr is ↦ joins (fault ∙ repeat-fresh name given is)
-      (rw known.by_id (ap (λ rs. kept_with rs) (known.used value (rows given) ∙ first_use name value given is))) (once_more given (name, value) once is)
+          (rw known.by_id (ap (λ rs. kept_with rs) (known.used value (rows given) ∙ first_use name value given is))) (once_more given (name, value) once is)
     ]
   where
     kept_with : List Row → Held

@@ -8,9 +8,11 @@ use Rattle.std.proofs.lemmas.Str.Parse.{IsDigitsTest, IsNumeralModel, digits_val
 use Rattle.std.proofs.lemmas.Grind.{common_steps}
 use Rattle.command_line.specs.Words.{Word, is_numeral, number_of}
 
+-- a text of digits
 abbrev all_digits : Word → Type 0
 all_digits word = list_all is_ascii_digit word ≡ true
 
+-- its value is that of std
 own : IsNumeralModel all_digits (digits_value 10)
 own = numerals_by_value all_digits (search rules)
 
@@ -20,6 +22,7 @@ record Numeral (word : Word) : Type 0 where
   few : length word ≤ 19
   digits : all_digits word
 
+-- the parts of the test
 numeral : (word : Word) → is_numeral word ≡ true → Numeral word
 numeral word h = record { some = grind (arith, common_steps); few = grind (arith, common_steps); digits = grind (arith, common_steps) }
 

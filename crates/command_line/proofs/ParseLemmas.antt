@@ -22,21 +22,26 @@ use Rattle.command_line.proofs.LineLemmas.{line, or_else-nil}
 use Rattle.command_line.proofs.ReadLemmas.{asked_in, found, found_by, line_asks}
 use Rattle.command_line.proofs.StepLemmas.{stand}
 
+-- the line as built
 abbrev app : App
 app = built line_app
 
+-- no subcommand is entered
 no_subcommand : (stop : Option (Text × List Text)) → is_some (entered app stop) ≡ false
 no_subcommand None = refl
 no_subcommand (Some p) = refl
 
+-- and none fails
 no_entered_fault : (stop : Option (Text × List Text)) → entered_fault app stop ≡ []
 no_entered_fault None = refl
 no_entered_fault (Some p) = refl
 
+-- a choice between two that are the same
 either_way : {X : Type 0} (b : Bool) (x : X) → cond b x x ≡ x
 either_way true x = refl
 either_way false x = refl
 
+-- a choice by a test that passes
 or_true-cond : {X : Type 0} (b : Bool) (x y : X) → cond (b || true) x y ≡ x
 or_true-cond true x y = refl
 or_true-cond false x y = refl
@@ -45,12 +50,14 @@ or_true-cond false x y = refl
 abbrev HaveNoDefault : List Rule → Type 0
 HaveNoDefault = AllByRecursion (λ (a : Rule). a.defaults ≡ [])
 
+-- they add no rows
 rows_stay : (rules : List Rule) (rs : List Row) → HaveNoDefault rules → fold with_default rs rules ≡ rs
 rows_stay [] rs none = refl
 rows_stay (a ∷ rules) rs none =
     let stays : with_default rs a ≡ rs = rw none.0 (either_way (has_row a.id rs) rs) in
     ap (λ x. fold with_default x rules) stays ∙ rows_stay rules rs none.1
 
+-- and have no fault
 no_default_fault : (rules : List Rule) (rs : List Row) → HaveNoDefault rules → defaults_fault rs rules ≡ []
 unfolding defaults_fault
 no_default_fault [] rs none = refl
@@ -58,21 +65,26 @@ no_default_fault (a ∷ rules) rs none =
     let passes : default_fault rs a ≡ [] = rw none.0 (or_true-cond (has_row a.id rs) [] _) in
     rw passes (no_default_fault rules (with_default rs a) none.1)
 
+-- the line has no default
 line_has_none : HaveNoDefault line.rules
 line_has_none = (refl, (refl, (refl, (refl, tt))))
 
+-- where the walk begins
 abbrev start : Walk
 start = stand [] None idle false false
 
+-- what is held at its end
 abbrev end_of : List Word → Held
 end_of words = (fold (walked line.rules []) start words).held
 
+-- the parse's kinds are those of the walk and of what is pending at its end
 fault_is : (words : List Word) → fault_of line_app words ≡ or_else (walk_fault line [] start words) (settle_fault line.rules false (end_of words))
 fault_is words =
     let stop = (fold (walked line.rules []) start words).stopped in
     rw (no_subcommand stop, no_entered_fault stop, no_default_fault line.rules (settled line.rules (end_of words)).rows line_has_none)
     (ap (or_else (walk_fault line [] start words)) (or_else-nil (settle_fault line.rules false (end_of words))))
 
+-- its matches are the rows at the end
 matches_are : (words : List Word) → matches_of line_app words ≡ (settled line.rules (end_of words)).rows
 matches_are words = rows_stay line.rules (settled line.rules (end_of words)).rows line_has_none
 
@@ -80,7 +92,7 @@ matches_are words = rows_stay line.rules (settled line.rules (end_of words)).row
 pub line_reads : (words : List Word) → fault_of line_app words ≡ [] → request_at (λ name. first_of name (matches_of line_app words)) ≡ words_of words
 line_reads words passes =
     let found_all : found start words ≡ Some (settled line.rules (end_of words)).rows
-        = ap (λ kinds. found_by kinds (end_of words)) (sym (fault_is words) ∙ passes) in
+    = ap (λ kinds. found_by kinds (end_of words)) (sym (fault_is words) ∙ passes) in
     ap (λ (rs : List Row). request_at (λ name. first_of name rs)) (matches_are words) ∙ sym (ap asked_in found_all) ∙ line_asks words
 
 -- a line that is refused asks for nothing
@@ -91,9 +103,11 @@ line_refused words kind more fails =
 
 -- ---- the answers of a parse
 
+-- the values found are those of the rows
 request_found : (f : Found) → request_at (first_value f) ≡ request_at (λ name. first_of name (rows_of f))
 request_found f = rw (first_value-rows f (codes "command"), first_value-rows f (codes "budget"), first_value-rows f (codes "seed"), first_value-rows f (codes "size")) refl
 
+-- what a parse finds is what the words ask for
 pub parsed_asks : (words : List Word) (a : App) (m : ArgMatches) → a ≡ line_app → (is_simple_and_free a ≡ true → fault_of a words ≡ [])
     → HasMatchesOf a words m → request_at (first_value (found_of m)) ≡ words_of words
 parsed_asks words a m is passes has =
@@ -101,6 +115,7 @@ parsed_asks words a m is passes has =
     let matches : rows_of (found_of m) ≡ matches_of line_app words = (has (ap is_simple is)).0 ∙ ap (λ x. matches_of x words) is in
     request_found (found_of m) ∙ ap (λ rs. request_at (λ name. first_of name rs)) matches ∙ line_reads words passed
 
+-- where it refuses the words, they ask for nothing
 pub refused_asks : (words : List Word) (a : App) (e : Error) → a ≡ line_app → (is_simple_and_free a ≡ true → HasKind (fault_of a words) e)
     → unasked_by (kind_of e) ≡ Usage → words_of words ≡ None
 refused_asks words a e is fails usage = elim (fails (ap is_simple_and_free is)) [

@@ -25,17 +25,20 @@ abbrev pub found_by : Kinds → Held → Option (List Row)
 found_by [] held = Some (settled line.rules held).rows
 found_by (k ∷ kinds) held = None
 
+-- the rows that the words leave, from where the walk stands
 abbrev pub found : Walk → List Word → Option (List Row)
 found from words =
     let end = (fold (walked line.rules []) from words).held in
     found_by (or_else (walk_fault line [] from words) (settle_fault line.rules false end)) end
 
+-- a word that is taken
 found_on : (from to : Walk) (word : Word) (rest : List Word) → Goes from word to → found from (word ∷ rest) ≡ found to rest
 unfolding walk_fault
 found_on from to word rest g =
     let one : found from (word ∷ rest) ≡ found (walked line.rules [] from word) rest = rw g.passes refl in
     one ∙ ap (λ w. found w rest) g.leads
 
+-- a word that is refused
 found_none : (from : Walk) (word : Word) (rest : List Word) → Stops from word → found from (word ∷ rest) ≡ None
 unfolding walk_fault
 found_none from word rest s = rw s.fails refl
@@ -48,13 +51,16 @@ asked_in = option_and_then (λ rs. request_at (λ name. first_of name rs))
 abbrev pub asked_with : List Given → Option (List Given) → Option Request
 asked_with given = option_and_then (λ more. asked_by (given ++ more))
 
+-- values that ask for nothing, whatever follows
 dead_with : (given : List Given) (more : Option (List Given)) → Dead given → asked_with given more ≡ None
 dead_with given None dead = refl
 dead_with given (Some more) dead = dead.none more
 
+-- and so with more values
 dead_more : (given more : List Given) → Dead given → Dead (given ++ more)
 dead_more given more dead = record { none = λ after. ap asked_by (append_assoc given more after) ∙ dead.none (more ++ after) }
 
+-- a value is the last so far, or the first of those to come
 with_given : (given : List Given) (name value : Word) (more : Option (List Given))
     → asked_with (given ++ (name, value) ∷ []) more ≡ asked_with given (give name value more)
 with_given given name value None = refl
@@ -62,6 +68,7 @@ with_given given name value (Some more) = ap asked_by (append_assoc given ((name
 
 -- ---- the end of the line
 
+-- where no option waits
 end_idle : (given all : List Given) (pending : Option (Text × List Text)) (met trailing : Bool) → Settling (kept given pending) all
     → asked_in (found (stand given pending idle met trailing) []) ≡ asked_by all
 unfolding walk_fault
@@ -70,6 +77,7 @@ end_idle given all pending met trailing s = elim s [
   | clash fault dead ↦ rw fault (sym (ap asked_by (sym (append-nil all)) ∙ dead.none []))
 ]
 
+-- where one does
 end_waiting : (given : List Given) (name : Word) (met trailing : Bool) → Known name
     → found (stand given (Some (name, [])) (option name) met trailing) [] ≡ None
 unfolding walk_fault
@@ -81,9 +89,11 @@ end_waiting given name met trailing known = rw (waiting_fault name given known) 
 pub record HasMet (met : Bool) (given : List Given) : Type 0 where
   pub command : met ≡ true → has (codes "command") given ≡ true
 
+-- at first none is
 not_met : HasMet false []
 not_met = record { command = λ is. absurd (true≢false (sym is)) }
 
+-- a name is given in one of two lists
 has-append : (name : Word) (a b : List Given) → has name (a ++ b) ≡ (has name a || has name b)
 has-append name [] b = refl
 has-append name (g ∷ a) b = go (bytes_eq g.0 name) (has-append name a b)
@@ -92,13 +102,16 @@ has-append name (g ∷ a) b = go (bytes_eq g.0 name) (has-append name a b)
     go true e = refl
     go false e = e
 
+-- a command stays given
 met_more : (met : Bool) (given more : List Given) → HasMet met given → HasMet met (given ++ more)
 met_more met given more m = record { command = λ is. let h = m.command is in rw (has-append (codes "command") given more, h) refl }
 
+-- a test or one that passes
 or_true : (b : Bool) → (b || true) ≡ true
 or_true true = refl
 or_true false = refl
 
+-- the command that was just met
 met_command : (given : List Given) (word : Word) → HasMet true (given ++ (codes "command", word) ∷ [])
 met_command given word = record { command = λ is. has-append (codes "command") given _ ∙ or_true (has (codes "command") given) }
 
@@ -108,9 +121,11 @@ data Alone (given all : List Given) (pending : Option (Text × List Text)) (met 
       → Settling (kept all (Some (codes "command", word ∷ []))) (all ++ (codes "command", word) ∷ []) → Alone given all pending met trailing word
   is_refused : Stops (stand given pending idle met trailing) word → Dead (all ++ (codes "command", word) ∷ []) → Alone given all pending met trailing word
 
+-- the command's name is one
 named_command : IsName (codes "command")
 named_command = inl refl
 
+-- which of the two it is
 alone_is : (given all : List Given) (pending : Option (Text × List Text)) (met trailing : Bool) (word : Word)
     → Settling (kept given pending) all → HasMet met all
     → IsMet trailing idle (if met then 2 else 1) word (kept given pending) (kept given pending, positional_value)
@@ -124,6 +139,7 @@ alone_is given all pending false trailing word s m v = elim s [
 
 -- ---- after `--`
 
+-- where no option waits
 trailing_reads : (words : List Word) (given all : List Given) (pending : Option (Text × List Text)) (met : Bool)
     → Settling (kept given pending) all → HasMet met all
     → asked_in (found (stand given pending idle met true) words) ≡ asked_by (all ++ given_alone words)
@@ -131,12 +147,13 @@ trailing_reads [] given all pending met s m = end_idle given all pending met tru
 trailing_reads (word ∷ rest) given all pending met s m =
     elim (alone_is given all pending met true word s m (value_trailing idle _ word (kept given pending))) [
       | is_command goes next ↦ ap asked_in (found_on _ _ word rest goes)
-      ∙ trailing_reads rest all (all ++ (codes "command", word) ∷ []) (Some (codes "command", word ∷ [])) true next (met_command all word)
-      ∙ ap asked_by (append_assoc all ((codes "command", word) ∷ []) (given_alone rest))
+          ∙ trailing_reads rest all (all ++ (codes "command", word) ∷ []) (Some (codes "command", word ∷ [])) true next (met_command all word)
+          ∙ ap asked_by (append_assoc all ((codes "command", word) ∷ []) (given_alone rest))
       | is_refused stops dead ↦ ap asked_in (found_none _ word rest stops)
-      ∙ sym (ap asked_by (sym (append_assoc all ((codes "command", word) ∷ []) (given_alone rest))) ∙ dead.none (given_alone rest))
+          ∙ sym (ap asked_by (sym (append_assoc all ((codes "command", word) ∷ []) (given_alone rest))) ∙ dead.none (given_alone rest))
     ]
 
+-- where one does, the line is refused
 waiting_none : (words : List Word) (given : List Given) (name : Word) (met : Bool) → Known name
     → found (stand given (Some (name, [])) (option name) met true) words ≡ None
 waiting_none [] given name met known = end_waiting given name met true known
@@ -161,7 +178,7 @@ module _ (word : Word) (rest : List Word) (next : Reads rest) where
       → asked_in (found (stand given pending idle met false) (word ∷ rest)) ≡ asked_with (all ++ (codes "command", word) ∷ []) (given_in None rest)
   plain_reads given all pending met s m v = elim (alone_is given all pending met false word s m v) [
     | is_command goes settles ↦ ap asked_in (found_on _ _ word rest goes)
-    ∙ next.idly all (all ++ (codes "command", word) ∷ []) (Some (codes "command", word ∷ [])) true settles (met_command all word)
+        ∙ next.idly all (all ++ (codes "command", word) ∷ []) (Some (codes "command", word ∷ [])) true settles (met_command all word)
     | is_refused stops dead ↦ ap asked_in (found_none _ word rest stops) ∙ sym (dead_with _ (given_in None rest) dead)
   ]
 
@@ -180,12 +197,12 @@ module _ (word : Word) (rest : List Word) (next : Reads rest) where
   valued_reads given all pending met name value s m no_end long known named = elim s [
     | joins fault after once ↦ elim (cases_Bool (has name all)) [
       | inl stands ↦ ap asked_in (found_none _ word rest (valued_stops given all pending met word name no_end known after value long fault stands))
-      ∙ sym (dead_with _ _ (given_twice name value all named stands))
+          ∙ sym (dead_with _ _ (given_twice name value all named stands))
       | inr fresh ↦ ap asked_in (found_on _ _ word rest (valued_goes given all pending met word name no_end known after value long fault fresh))
-      ∙ next.idly (all ++ (name, value) ∷ []) (all ++ (name, value) ∷ []) None met (settled_already _ (once_more all (name, value) once fresh)) (met_more met all _ m)
+          ∙ next.idly (all ++ (name, value) ∷ []) (all ++ (name, value) ∷ []) None met (settled_already _ (once_more all (name, value) once fresh)) (met_more met all _ m)
     ]
     | clash fault dead ↦ ap asked_in (found_none _ word rest (option_stops given pending idle met word name (Some value) _ no_end long known fault))
-    ∙ sym (dead_with _ _ (dead_more all _ dead))
+        ∙ sym (dead_with _ _ (dead_more all _ dead))
   ]
 
   -- an option whose value is the next word
@@ -194,13 +211,14 @@ module _ (word : Word) (rest : List Word) (next : Reads rest) where
       → asked_in (found (stand given pending idle met false) (word ∷ rest)) ≡ asked_with all (given_in (Some name) rest)
   option_reads given all pending met name s m no_end long known named = elim s [
     | joins fault after once ↦ ap asked_in (found_on _ _ word rest (option_goes given all pending met word name no_end known after long fault))
-    ∙ next.waiting all name met known named once m
+        ∙ next.waiting all name met known named once m
     | clash fault dead ↦ ap asked_in (found_none _ word rest (option_stops given pending idle met word name None _ no_end long known fault))
-    ∙ sym (dead_with all _ dead)
+        ∙ sym (dead_with all _ dead)
   ]
 
 -- ---- the words
 
+-- no words
 no_words : Reads []
 unfolding given_in
 no_words = record {
@@ -208,6 +226,7 @@ no_words = record {
   waiting = λ given name met known named once m. ap asked_in (end_waiting given name met false known.known);
 }
 
+-- one word more, by its sort
 more_words : (word : Word) (rest : List Word) → Reads rest → Sort word → Reads (word ∷ rest)
 unfolding given_in
 more_words word rest next (plain_word no_flag piece starts) = record {
@@ -230,13 +249,13 @@ more_words word rest next (short_word flags no_end no_long is_short piece starts
   idly = λ given all pending met s m. elim (short_word_of idle (if met then 2 else 1) word flags given pending no_end no_long is_short) [
     | refused_short fault ↦ ap asked_in (found_none _ word rest (short_stops given pending idle met word fault)) ∙ rw piece refl
     | value_short v ↦ plain_reads word rest next given all pending met s m v
-    ∙ dead_with _ (given_in None rest) (wrong_dead (codes "command") word all named_command wrong) ∙ rw piece refl
+        ∙ dead_with _ (given_in None rest) (wrong_dead (codes "command") word all named_command wrong) ∙ rw piece refl
   ];
   waiting = λ given name met known named once m.
       elim (short_word_of (option name) (if met then 2 else 1) word flags given (Some (name, [])) no_end no_long is_short) [
         | refused_short fault ↦ ap asked_in (found_none _ word rest (short_stops given _ (option name) met word fault)) ∙ rw starts refl
         | value_short v ↦ value_reads word rest next given name met known named once m v
-        ∙ dead_with _ (given_in None rest) (wrong_dead name word given named wrong) ∙ rw starts refl
+            ∙ dead_with _ (given_in None rest) (wrong_dead name word given named wrong) ∙ rw starts refl
       ];
 }
 more_words word rest next (long_word text no_end is_long piece starts) = elim (long_parts text) [
@@ -272,6 +291,7 @@ more_words word rest next (long_word text no_end is_long piece starts) = elim (l
   ]
 ]
 
+-- any words
 reads : (words : List Word) → Reads words
 reads [] = no_words
 reads (word ∷ rest) = more_words word rest (reads rest) (sort_of word)

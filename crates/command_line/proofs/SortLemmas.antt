@@ -26,17 +26,20 @@ pub data Sort (word : Word) : Type 0 where
   short_word : (flags : Word) → bytes_eq word (codes "--") ≡ false → long_of word ≡ None → short_of word ≡ Some flags
       → piece_of word ≡ hyphened → begins_with word (codes "-") ≡ true → IsWrong word → Sort word
 
+-- a test fails where its third part does
 and_false : (a b c : Bool) → (a && (b && (false && c))) ≡ false
 and_false false b c = refl
 and_false true false c = refl
 and_false true true c = refl
 
+-- no command and no number begins with a hyphen
 wrong : (rest : Word) → IsWrong (45 ∷ rest)
 wrong rest = record {
   command = refl;
   number = rw (and_false (nat_le 1 (length (45 ∷ rest))) (nat_le (length (45 ∷ rest)) 19) (list_all is_ascii_digit rest)) refl;
 }
 
+-- the sort of a word that begins with two hyphens
 two_hyphens : (rest : Word) → Sort (45 ∷ 45 ∷ rest)
 two_hyphens [] = end_word refl
 two_hyphens (x ∷ rest) = long_word (x ∷ rest) refl refl refl refl
@@ -46,12 +49,14 @@ record IsOther (x : ℕ) : Type 0 where
   left : nat_eq x 45 ≡ false
   right : nat_eq 45 x ≡ false
 
+-- a byte is a hyphen, or isn't
 other : (x : ℕ) → (x ≡ 45) ⊎ IsOther x
 other x = elim (cases_Bool (nat_eq x 45)) [
   | inl e ↦ inl (eqb-true x 45 e)
   | inr e ↦ inr (record { left = e; right = ne_eqb 45 x (λ s. eqb-false x 45 e (sym s)) })
 ]
 
+-- the sort of a word that begins with a hyphen
 one_hyphen : (rest : Word) → Sort (45 ∷ rest)
 one_hyphen [] = hyphen_word (record { no_end = refl; no_long = refl; no_short = refl }) refl refl (wrong [])
 one_hyphen (x ∷ rest) = elim (other x) [
@@ -59,6 +64,7 @@ one_hyphen (x ∷ rest) = elim (other x) [
   | inr o ↦ short_word (x ∷ rest) (rw o.left refl) (rw o.left refl) (rw o.left refl) (rw (o.left, o.right) refl) refl (wrong (x ∷ rest))
 ]
 
+-- the sort of a word
 pub sort_of : (word : Word) → Sort word
 sort_of [] = plain_word (record { no_end = refl; no_long = refl; no_short = refl }) refl refl
 sort_of (x ∷ rest) = elim (other x) [
@@ -71,6 +77,7 @@ pub data LongParts (text : Word) : Type 0 where
   name_with_value : (name value : Word) → name_and_value text ≡ (name, Some value) → long_piece text ≡ option_with name value → LongParts text
   name_alone : name_and_value text ≡ (text, None) → long_piece text ≡ option text → LongParts text
 
+-- a text without `=` is all before it
 no_sign : (text : Word) → list_any is_equals_sign text ≡ false → before_first is_equals_sign text ≡ text
 no_sign [] none = refl
 no_sign (x ∷ text) none = elim (cases_Bool (is_equals_sign x)) [
@@ -78,6 +85,7 @@ no_sign (x ∷ text) none = elim (cases_Bool (is_equals_sign x)) [
   | inr is ↦ rw (is, one-add) (ap (λ t. x ∷ t) (no_sign text (rw is at none)))
 ]
 
+-- the parts of what follows `--`
 pub long_parts : (text : Word) → LongParts text
 long_parts text = elim (cases_Bool (list_any is_equals_sign text)) [
   | inl some ↦ name_with_value (before_first is_equals_sign text) (after_first is_equals_sign text) (rw some refl) (rw some refl)

@@ -42,6 +42,7 @@ pub record Stops (from : Walk) (word : Word) : Type 0 where
 
 -- ---- a word that is no flag
 
+-- the line has no subcommand
 no_subcommand : (waiting : Waiting) (word : Word) → subcommand_met [] waiting word ≡ None
 no_subcommand idle word = refl
 no_subcommand (option id) word = refl
@@ -70,6 +71,7 @@ data Bundle (flags : Word) (held : Held) : Type 0 where
   refused_bundle : bundle_fault line.rules false flags held ≡ UnknownArgument ∷ [] → Bundle flags held
   no_bundle : bundle_fault line.rules false flags held ≡ [] → bundle line.rules flags held ≡ (held, no_flag) → Bundle flags held
 
+-- which of the two it is
 bundle_of : (flags : Word) (given : List Given) (pending : Option (Text × List Text)) → Bundle flags (kept given pending)
 unfolding flags_fault bundle_met
 bundle_of [] given pending = no_bundle refl refl
@@ -84,6 +86,7 @@ pub data ShortWord (waiting : Waiting) (position : ℕ) (word : Word) (held : He
   refused_short : word_fault line [] false waiting word held ≡ UnknownArgument ∷ [] → ShortWord waiting position word held
   value_short : IsMet false waiting position word held (plain_word line.rules waiting word held) → ShortWord waiting position word held
 
+-- which of the two it is
 pub short_word_of : (waiting : Waiting) (position : ℕ) (word flags : Word) (given : List Given) (pending : Option (Text × List Text))
     → bytes_eq word (codes "--") ≡ false → long_of word ≡ None → short_of word ≡ Some flags → ShortWord waiting position word (kept given pending)
 short_word_of waiting position word flags given pending no_end no_long short = elim (bundle_of flags given pending) [
@@ -94,16 +97,19 @@ short_word_of waiting position word flags given pending no_end no_long short = e
   })
 ]
 
+-- a flag of one letter is refused
 pub short_stops : (given : List Given) (pending : Option (Text × List Text)) (waiting : Waiting) (met : Bool) (word : Word)
     → word_fault line [] false waiting word (kept given pending) ≡ UnknownArgument ∷ [] → Stops (stand given pending waiting met false) word
 short_stops given pending waiting met word fault = record { kind = UnknownArgument; fails = rw fault refl }
 
 -- ---- a value for the command
 
+-- a choice by a test that fails
 neither : {X : Type 0} (b : Bool) (x y : X) → cond (b && false) x y ≡ y
 neither true x y = refl
 neither false x y = refl
 
+-- a test or none
 or_false : (b : Bool) → (b || false) ≡ b
 or_false true = refl
 or_false false = refl
@@ -112,6 +118,7 @@ or_false false = refl
 to_command : (held : Held) → step_fault line 1 held positional_value ≡ settle_fault line.rules false held
 to_command held = neither (is_pending command_rule held.pending) [] (settle_fault line.rules false held)
 
+-- the word is pending there
 command_held : (word : Word) (held : Held) (all : List Given) → settled line.rules held ≡ kept all None
     → positional_held line.rules command_rule word held ≡ kept all (Some (codes "command", word ∷ []))
 command_held word held all after =
@@ -126,7 +133,7 @@ command_goes given all pending trailing word v fault after =
     record {
       passes = rw (v.no_fault, v.meets) (to_command (kept given pending) ∙ fault);
       leads = rw v.meets (ap₂ (λ h t. record { held = h; waiting = idle; position = 2; is_trailing = t; stopped = None })
-      (command_held word (kept given pending) all after) (or_false trailing));
+          (command_held word (kept given pending) all after) (or_false trailing));
     }
 
 -- it is refused where what is pending can't be used
@@ -143,11 +150,13 @@ second_stops given pending waiting trailing word v = record { kind = UnknownArgu
 
 -- ---- `--`
 
+-- it is taken where nothing waits
 pub ends_options : (given : List Given) (pending : Option (Text × List Text)) (met : Bool)
     → Goes (stand given pending idle met false) (codes "--") (stand given pending idle met true)
 unfolding walked
 ends_options given pending met = record { passes = refl; leads = refl }
 
+-- and where an option does
 pub ends_waiting : (given : List Given) (pending : Option (Text × List Text)) (name : Word) (met : Bool)
     → Goes (stand given pending (option name) met false) (codes "--") (stand given pending (option name) met true)
 unfolding walked
@@ -155,6 +164,7 @@ ends_waiting given pending name met = record { passes = refl; leads = refl }
 
 -- ---- a word with a long name
 
+-- a name that the line doesn't have is refused
 pub unknown_stops : (given : List Given) (pending : Option (Text × List Text)) (waiting : Waiting) (met : Bool) (word name : Word) (attached : Option Word)
     → bytes_eq word (codes "--") ≡ false → long_of word ≡ Some (name, attached) → arg_by_long line.rules name ≡ None
     → Stops (stand given pending waiting met false) word
@@ -162,8 +172,10 @@ unknown_stops given pending idle met word name attached no_end long none = recor
 unknown_stops given pending (option id) met word name attached no_end long none = record { kind = UnknownArgument; fails = rw (no_end, long, none) refl }
 unknown_stops given pending positional met word name attached no_end long none = record { kind = UnknownArgument; fails = rw (no_end, long, none) refl }
 
+-- an option of the line, where what is pending can be used
 module _ (given all : List Given) (pending : Option (Text × List Text)) (met : Bool) (word name : Word) (no_end : bytes_eq word (codes "--") ≡ false)
-  (known : KnownOption name) (after : settled line.rules (kept given pending) ≡ kept all None) where
+    (known : KnownOption name) (after : settled line.rules (kept given pending) ≡ kept all None) where
+  -- the rows are those of all values so far
   rows_after : (settled line.rules (kept given pending)).rows ≡ rows all
   rows_after = ap (λ (h : Held). h.rows) after
 
@@ -173,9 +185,9 @@ module _ (given all : List Given) (pending : Option (Text × List Text)) (met : 
   unfolding walked
   valued_goes value long fault fresh =
       let react : react_fault line.rules false known.known.rule (value ∷ []) (kept given pending) ≡ []
-          = rw (fault, rows_after, known.known.one value (rows all)) (repeat-fresh name all fresh) in
+      = rw (fault, rows_after, known.known.one value (rows all)) (repeat-fresh name all fresh) in
       let row_added : used known.known.rule (value ∷ []) (settled line.rules (kept given pending)).rows ≡ rows (all ++ (name, value) ∷ [])
-          = ap (used known.known.rule (value ∷ [])) rows_after ∙ known.known.used value (rows all) ∙ first_use name value all fresh in
+      = ap (used known.known.rule (value ∷ [])) rows_after ∙ known.known.used value (rows all) ∙ first_use name value all fresh in
       record {
         passes = rw (no_end, long, known.by_long, known.takes, react) refl;
         leads = rw (no_end, long, known.by_long, known.takes) (ap (λ rs. record { held = record { rows = rs; pending = None; skip = 0 }; waiting = idle; position = if met then 2 else 1; is_trailing = false; stopped = None }) row_added);
@@ -186,7 +198,7 @@ module _ (given all : List Given) (pending : Option (Text × List Text)) (met : 
       → has name all ≡ true → Stops (stand given pending idle met false) word
   valued_stops value long fault stands =
       let react : react_fault line.rules false known.known.rule (value ∷ []) (kept given pending) ≡ ArgumentConflict ∷ []
-          = rw (fault, rows_after, known.known.one value (rows all)) (repeat-clash name all stands) in
+      = rw (fault, rows_after, known.known.one value (rows all)) (repeat-clash name all stands) in
       record { kind = ArgumentConflict; fails = rw (no_end, long, known.by_long, known.takes, react) refl }
 
   -- an option that waits for its value
@@ -209,6 +221,7 @@ option_stops given pending waiting met word name (Some v) kind no_end long known
 
 -- ---- a value for an option that waits for it
 
+-- the word is its value
 pub value_goes : (given : List Given) (name : Word) (met : Bool) (word : Word) → KnownOption name
     → (let held = kept given (Some (name, [])) in
     IsMet false (option name) (if met then 2 else 1) word held (plain_word line.rules (option name) word held))

@@ -9,6 +9,7 @@ abbrev pub read_or : {X : Type 0} → X → (Word → Option X) → Option Word 
 read_or default read None = Some default
 read_or default read (Some value) = read value
 
+-- what the values ask for that stand under the four names
 abbrev pub request_at : (Word → Option Word) → Option Request
 request_at value_at = request_of (option_and_then command_of (value_at (codes "command")))
     (read_or budget_if_absent budget_of (value_at (codes "budget")))

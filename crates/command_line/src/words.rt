@@ -12,10 +12,12 @@ use std::alloc::Global;
 
 // The budget where none is given, and the largest one.
 const BUDGET: u64 = 100_000;
+
 const MOST_BUDGET: u64 = 1_000_000;
 
 // The size where none is given, and the largest one.
 const SIZE: u64 = 40;
+
 const MOST_SIZE: u64 = 1_000;
 
 /// What the program is asked for by its words, which are those after its name: one command, and

@@ -9,7 +9,7 @@ use Rattle.command_line.proofs.words.line.Goals as goal
 pub returns : goal.returns
 returns c =
     let named : app_of c.no_binary_name.result ≡ record (app_of c.new.result) { top = record (app_of c.new.result).top { no_binary_name = true } }
-        = ap app_of_fields c.no_binary_name.ensures in
+    = ap app_of_fields c.no_binary_name.ensures in
     let bare : app_of c.disable_help_flag.result ≡ bare_line = ap app_of_fields c.disable_help_flag.ensures
     ∙ ap (λ (a : App). record a { top = record a.top { disable_help_flag = true } }) (named
     ∙ ap (λ (a : App). record a { top = record a.top { no_binary_name = true } }) c.new.ensures.app) in
