@@ -4,6 +4,7 @@
 
 mod ast;
 mod copies;
+mod fault;
 mod history;
 mod ids;
 mod kernel;
@@ -25,6 +26,7 @@ pub use ast::{
     Param, Sort, Use,
 };
 pub use copies::Copies;
+pub use fault::Fault;
 pub use history::{Deed, Entry, Phase};
 pub use ids::{PointId, SvId, ValId, WordId};
 pub use kernel::Core;
