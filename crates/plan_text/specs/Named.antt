@@ -31,10 +31,14 @@ horizons_in ps = length (filter is_horizon ps)
 abbrev pub ends_in : List Point → ℕ → ℕ
 ends_in ps v = length (filter (ends v) ps)
 
--- these numbers count the horizon points, and the tokens of each variable
+-- the list counts the tokens of each variable; past its end there is none
+abbrev pub CountsTokens : List Point → List ℕ → Type 0
+CountsTokens ps tokens = (v : ℕ) → slice_index tokens v ≡ ends_in ps v
+
+-- the numbers of horizon points and of each variable's tokens
 pub record Counts (ps : List Point) (horizons : ℕ) (tokens : List ℕ) : Type 0 where
   pub horizons_are : horizons ≡ horizons_in ps
-  pub tokens_are : (v : ℕ) → slice_index tokens v ≡ ends_in ps v
+  pub tokens_are : CountsTokens ps tokens
 
 -- the points, and the end of a new token
 abbrev pub with_end : List Point → Kind → List Point

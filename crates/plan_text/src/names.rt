@@ -1,7 +1,8 @@
-ghost use Rattle.std.specs.Prelude.{◌≡◌, ℕ, ◌+◌, ◌^◌, ◌<◌, [], ◌∷◌, ◌++◌, List, length, slice_get, take, fold, option_map, vec_len, vec_capacity, All, IfOk, OnOk, OnErr};
+ghost use Rattle.std.specs.Prelude.{◌≡◌, ℕ, ◌+◌, ◌^◌, ◌<◌, ◌≤◌, [], ◌∷◌, ◌++◌, List, length, slice_get, slice_index, map, fold, option_map, vec_len, vec_capacity, All, IfOk, OnOk, OnErr};
 ghost use Rattle.hs_base.specs.declared.mission.Kind.{Kind};
 ghost use Rattle.hs_base.specs.declared.plan.Extension.{Extension};
 ghost use Rattle.hs_base.specs.Points.{points_of};
+ghost use Rattle.plan_text.specs.Named.{named, with_end, with_extension, CountsTokens};
 
 use hs_base::{Extension, Kind, Memory, PointId, TokenRef};
 use std::alloc::Global;
@@ -39,9 +40,40 @@ impl Model for PointNames {
     ghost invariant = { λ s. Counts (map named s.names.items) s.horizons s.tokens.items };
 }
 
-impl PointNames {
-    ghost use Rattle.plan_text.specs.Named.{named, with_extension};
+/// Makes room for the variables of these tokens, with no token yet.
+fn make_room(counts: &mut Vec<u32>, tokens: &[Kind]) -> Result<(), Memory>
+    ensures kept { (v : ℕ) → slice_index counts.new.items v ≡ slice_index counts.old.items v }
+    ensures room { OnOk result (All (λ k. k.sv.0 < vec_len counts.new) tokens.now) }
+{
+    let mut room = counts.len();
+    for token in tokens {
+        room = room.max(token.sv.0 as usize + 1);
+    }
+    counts.resize(room, 0)?;
+    Ok(())
+}
 
+/// Names the ends of new tokens, behind the names that are counted so far.
+fn name_ends(names: &mut Vec<PointName>, counts: &mut Vec<u32>, tokens: &[Kind])
+    requires space { vec_len names.old + length tokens.now ≤ vec_capacity names.old }
+    requires fewer { vec_len names.old + length tokens.now < 2 ^ 32 }
+    requires room { All (λ k. k.sv.0 < vec_len counts.old) tokens.now }
+    requires counted { CountsTokens (map named names.old.items) counts.old.items }
+    ensures names { map named names.new.items ≡ fold with_end (map named names.old.items) tokens.now }
+    ensures counted { CountsTokens (map named names.new.items) counts.new.items }
+{
+    for token in tokens {
+        let v = token.sv.0 as usize;
+        let place = counts[v];
+        names.push_reserved(PointName::End(TokenRef {
+            sv: token.sv,
+            place,
+        }));
+        counts[v] = place + 1;
+    }
+}
+
+impl PointNames {
     /// The points of the plan with no extension.
     pub fn new(alloc: Global) -> Result<PointNames, Memory>
         ensures { IfOk result (λ names. names ≡ points_of []) }
@@ -60,5 +92,23 @@ impl PointNames {
         ensures { option_map named result ≡ slice_get self.now point.0 }
     {
         self.names.get(point.0 as usize).copied()
+    }
+
+    /// Takes in the points of a further extension. After want of memory the names are unchanged.
+    pub fn extend(&mut self, extension: &Extension) -> Result<(), Memory>
+        requires fewer { length self.old + length extension.now.tokens + 1 < 2 ^ 32 }
+        ensures ok { OnOk result (self.new ≡ with_extension self.old extension.now) }
+        ensures points { (before : List Extension)
+            → self.old ≡ points_of before
+            → OnOk result (self.new ≡ points_of (before ++ extension.now ∷ [])) }
+        ensures err { OnErr result (self.new ≡ self.old) }
+    {
+        let tokens = extension.tokens.as_slice();
+        self.names.reserve(tokens.len() + 1)?;
+        make_room(&mut self.tokens, tokens)?;
+        self.horizons += 1;
+        self.names.push_reserved(PointName::Horizon(self.horizons));
+        name_ends(&mut self.names, &mut self.tokens, tokens);
+        Ok(())
     }
 }

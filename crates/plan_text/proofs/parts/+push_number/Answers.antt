@@ -9,10 +9,10 @@ pub returns : goal.returns
 returns t c =
     let small : c.args.number < 2 ^ 64 = omega arith in
     elim c.if-number-ge10.branch [
-      then-number-ge10+in_ok-push_number w ↦
-        let e : decimal c.args.number ≡ decimal (c.args.number / 10) ++ ((48 + c.args.number % 10) ∷ []) = decimal_step c.args.number (omega arith) small in
-        grind (arith, common_steps)
-    | else-number-ge10 w ↦
-        let e : decimal c.args.number ≡ (48 + c.args.number) ∷ [] = decimal_digit c.args.number (omega arith) in
-        grind (arith, common_steps)
+      | then-number-ge10+in_ok-push_number w ↦
+          let e : decimal c.args.number ≡ decimal (c.args.number / 10) ++ ((48 + c.args.number % 10) ∷ []) = decimal_step c.args.number (omega arith) small in
+          grind (arith, common_steps)
+      | else-number-ge10 w ↦
+          let e : decimal c.args.number ≡ (48 + c.args.number) ∷ [] = decimal_digit c.args.number (omega arith) in
+          grind (arith, common_steps)
     ]
