@@ -1,20 +1,20 @@
 -- The numbers of points, and the points of a further extension.
-use Rattle.std.proofs.Common.{◌≡◌, ◌≢◌, ℕ, ◌+◌, ◌<◌, ◌≤◌, Bool, true, false, cond, nat_eq, List, [], ◌∷◌, ◌++◌, length, filter, map, fold, get_or, set, slice_index, slice_set, refl, sym, ap, ◌∙◌, arith, append_assoc, inl, inr}
+use Rattle.std.proofs.Common.{◌≡◌, ◌≢◌, ℕ, suc, take, ◌+◌, ◌<◌, ◌≤◌, ◌^◌, Bool, true, false, cond, nat_eq, List, [], ◌∷◌, ◌++◌, length, filter, map, fold, get_or, set, slice_index, slice_set, refl, sym, ap, ◌∙◌, arith, append_assoc, inl, inr}
 use Rattle.std.proofs.lemmas.Bool.{cases_eq}
 use Rattle.std.proofs.lemmas.Bool.Decides.{eqb_tells}
-use Rattle.std.proofs.lemmas.List.{append-nil, map-append, length_push, get_or-set_same, get_or-set_other}
+use Rattle.std.proofs.lemmas.List.{append-nil, map-append, length-append, length-map, length_push, get_or-set_same, get_or-set_other}
 use Rattle.std.proofs.lemmas.Grind.{flat_map-append}
 use Rattle.std.proofs.lemmas.List.Elements.{filter-append}
 use Rattle.std.proofs.lemmas.List.Sums.{count_by-le-length, length-filter}
 use Rattle.hs_base.specs.declared.plan.TokenRef.{TokenRef}
 use Rattle.hs_base.specs.declared.mission.Kind.{Kind}
 use Rattle.hs_base.specs.declared.plan.Extension.{Extension}
-use Rattle.hs_base.specs.Points.{Point, origin, horizon, ending, tokens_of, timeline_of, ref_after, refs_after, new_points, points_of}
+use Rattle.hs_base.specs.Points.{Point, origin, horizon, ending, tokens_of, timeline_of, ref_after, refs_after, new_points, points_of, count}
 use Rattle.hs_base.specs.Walks.{join_after}
 use Rattle.plan_text.specs.Named.{named, is_horizon, ends, horizons_in, ends_in, Counts, CountsTokens, with_end, with_horizon, with_extension}
 use Rattle.plan_text.specs.declared.names.PointName.{PointName}
 use Rattle.plan_text.specs.declared.names.PointName.TheVariants.{Horizon, End}
-use Rattle.plan_text.proofs.WalkLemmas.{join_after-push}
+use Rattle.plan_text.proofs.WalkLemmas.{join_after-push, length-join_after-take, take-next}
 
 -- 1 for a test that is passed
 abbrev number : Bool → ℕ
@@ -40,14 +40,14 @@ counts-with_end ps counts k n c h e v =
     let own = c k.sv.0 in
     let here = c v in
     elim (eqb_tells k.sv.0 v) [
-      inl t ↦ let one = ap number t.0 in
-              let at : get_or (set counts k.sv.0 (n + 1)) k.sv.0 0 ≡ n + 1 = get_or-set_same counts k.sv.0 (n + 1) 0 h in
-              let same : get_or (set counts k.sv.0 (n + 1)) v 0 ≡ get_or (set counts k.sv.0 (n + 1)) k.sv.0 0 = ap (λ w. get_or (set counts k.sv.0 (n + 1)) w 0) (sym t.1) in
-              let there : ends_in ps v ≡ ends_in ps k.sv.0 = ap (ends_in ps) (sym t.1) in
-              omega (arith, pushed, own, one, at, same, there)
-    | inr t ↦ let none = ap number t.0 in
-              let at : get_or (set counts k.sv.0 (n + 1)) v 0 ≡ get_or counts v 0 = get_or-set_other counts k.sv.0 v (n + 1) 0 (λ q. t.1 (sym q)) in
-              omega (arith, pushed, here, none, at)
+      | inl t ↦ let one = ap number t.0 in
+          let at : get_or (set counts k.sv.0 (n + 1)) k.sv.0 0 ≡ n + 1 = get_or-set_same counts k.sv.0 (n + 1) 0 h in
+          let same : get_or (set counts k.sv.0 (n + 1)) v 0 ≡ get_or (set counts k.sv.0 (n + 1)) k.sv.0 0 = ap (λ w. get_or (set counts k.sv.0 (n + 1)) w 0) (sym t.1) in
+          let there : ends_in ps v ≡ ends_in ps k.sv.0 = ap (ends_in ps) (sym t.1) in
+          omega (arith, pushed, own, one, at, same, there)
+      | inr t ↦ let none = ap number t.0 in
+          let at : get_or (set counts k.sv.0 (n + 1)) v 0 ≡ get_or counts v 0 = get_or-set_other counts k.sv.0 v (n + 1) 0 (λ q. t.1 (sym q)) in
+          omega (arith, pushed, here, none, at)
     ]
 
 -- the name of a new token's end stands for that end
@@ -129,7 +129,7 @@ counted-extension : (ps : List Point) (before : List Extension) (e : Extension) 
 counted-extension ps before e h = record {
   tokens = rw tokens_of-push (matches-fold (with_horizon ps) (tokens_of before) e.tokens (matches-horizon ps (tokens_of before) (horizons_in ps + 1) h.tokens));
   extensions =
-    horizons_in-fold (with_horizon ps) e.tokens ∙ horizons_in-horizon ps (horizons_in ps + 1) ∙ ap (λ n. n + 1) h.extensions ∙ sym (length_push before e);
+      horizons_in-fold (with_horizon ps) e.tokens ∙ horizons_in-horizon ps (horizons_in ps + 1) ∙ ap (λ n. n + 1) h.extensions ∙ sym (length_push before e);
 }
 
 counted-all : (ps : List Point) (before es : List Extension) → IsCounted ps before → IsCounted (ps ++ join_after new_points before es) (before ++ es)
@@ -155,3 +155,16 @@ counts-with_extension ps e horizons tokens h c = record {
   horizons_are = ap (λ n. n + 1) h ∙ sym (horizons_in-fold (with_horizon ps) e.tokens ∙ horizons_in-horizon ps (horizons_in ps + 1));
   tokens_are = c;
 }
+
+length-refs_after : (before ks : List Kind) → length (refs_after before ks) ≡ length ks
+length-refs_after before [] = refl
+length-refs_after before (k ∷ ks) = ap suc (length-refs_after (before ++ k ∷ []) ks)
+
+count-push : (before : List Extension) (e : Extension) → count (before ++ e ∷ []) ≡ count before + length e.tokens + 1
+count-push before e =
+    omega (arith, ap length (points_of-push before e), length-append (points_of before) (new_points before e), length-map (refs_after (tokens_of before) e.tokens) end_of, length-refs_after (tokens_of before) e.tokens)
+
+-- there is a number for each point of the extension that a loop over a plan reads
+pub fewer-next : (es xs : List Extension) (i : ℕ) (e : Extension) (ps : List Point) → xs ≡ es → i < length xs → e ≡ get_or xs i e → ps ≡ points_of (take i es) → count es < 2 ^ 32 → length ps + length e.tokens + 1 < 2 ^ 32
+fewer-next es xs i e ps same h is points few =
+    omega (arith, length-join_after-take new_points [] es (i + 1), ap count (take-next es xs i e same h is), count-push (take i es) e, ap length points)

@@ -1,10 +1,10 @@
 ghost use Rattle.std.specs.Prelude.{◌≡◌, ℕ, ◌+◌, ◌^◌, ◌<◌, ◌≤◌, [], ◌∷◌, ◌++◌, List, length, slice_get, slice_index, map, fold, option_map, vec_len, vec_capacity, All, IfOk, OnOk, OnErr};
 ghost use Rattle.hs_base.specs.declared.mission.Kind.{Kind};
 ghost use Rattle.hs_base.specs.declared.plan.Extension.{Extension};
-ghost use Rattle.hs_base.specs.Points.{points_of};
+ghost use Rattle.hs_base.specs.Points.{count, points_of};
 ghost use Rattle.plan_text.specs.Named.{named, with_end, with_extension, CountsTokens};
 
-use hs_base::{Extension, Kind, Memory, PointId, TokenRef};
+use hs_base::{Extension, Kind, Memory, Plan, PointId, TokenRef};
 use std::alloc::Global;
 use std::marker::Model;
 
@@ -92,6 +92,18 @@ impl PointNames {
         ensures { option_map named result ≡ slice_get self.now point.0 }
     {
         self.names.get(point.0 as usize).copied()
+    }
+
+    /// The points of a plan.
+    pub fn of(alloc: Global, plan: &Plan) -> Result<PointNames, Memory>
+        requires { count plan.now.extensions < 2 ^ 32 }
+        ensures { IfOk result (λ names. names ≡ points_of plan.now.extensions) }
+    {
+        let mut names = PointNames::new(alloc)?;
+        for extension in plan.extensions.as_slice() {
+            names.extend(extension)?;
+        }
+        Ok(names)
     }
 
     /// Takes in the points of a further extension. After want of memory the names are unchanged.

@@ -26,13 +26,13 @@ loop-token-preserved c =
     let read = get_or_read c.loop-token.counts.items k.sv.0 c.index-place.result.now (omega arith) c.index-place.ensures 0 in
     let counted = c.loop-token.invariant.counted in
     let pushed : map named c.push_reserved.new.self.items ≡ with_end ps k =
-      ap (map named) c.push_reserved.ensures.items ∙ map-with_end c.loop-token.names.items c.loop-token.counts.items k c.index-place.result.now counted read in
+    ap (map named) c.push_reserved.ensures.items ∙ map-with_end c.loop-token.names.items c.loop-token.counts.items k c.index-place.result.now counted read in
     record {
       len = omega arith;
       capacity = cc;
       counts = omega arith;
       names =
-        rw (take_more c.args.tokens.now c.loop-token.token-index none c.loop-token-test.true, fold_push with_end (map named c.args.names.now.items) (take c.loop-token.token-index c.args.tokens.now) k)
-        (pushed ∙ ap (λ qs. with_end qs k) c.loop-token.invariant.names);
-      counted = rw pushed (counts-with_end ps c.loop-token.counts.items k c.index-place.result.now counted (omega arith) read)
+          rw (take_more c.args.tokens.now c.loop-token.token-index none c.loop-token-test.true, fold_push with_end (map named c.args.names.now.items) (take c.loop-token.token-index c.args.tokens.now) k)
+          (pushed ∙ ap (λ qs. with_end qs k) c.loop-token.invariant.names);
+      counted = rw pushed (counts-with_end ps c.loop-token.counts.items k c.index-place.result.now counted (omega arith) read);
     }

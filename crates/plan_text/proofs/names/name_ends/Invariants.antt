@@ -9,5 +9,5 @@ invariant-loop-token l =
       capacity : vec_capacity l.names ≡ vec_capacity l.fn.names;
       counts : vec_len l.counts ≡ vec_len l.fn.counts;
       names : map named l.names.items ≡ fold with_end (map named l.fn.names.items) (take l.token-index l.tokens);
-      counted : CountsTokens (map named l.names.items) l.counts.items
+      counted : CountsTokens (map named l.names.items) l.counts.items;
     }

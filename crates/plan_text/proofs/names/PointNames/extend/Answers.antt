@@ -16,8 +16,8 @@ named_now : (c : goal.After-name_ends) → map named c.name_ends.new.names.items
 named_now c =
     let names = c.self.inside.names.items in
     let horizon_named : map named c.push_reserved.new.self.items ≡ with_horizon (map named names) =
-      ap (map named) (c.push_reserved.ensures.items ∙ ap (λ ns. ns ++ Horizon (c.self.inside.horizons + 1) ∷ []) c.reserve.ensures.items)
-      ∙ map-with_horizon names c.self.inside.horizons c.self.invariant.horizons_are in
+    ap (map named) (c.push_reserved.ensures.items ∙ ap (λ ns. ns ++ Horizon (c.self.inside.horizons + 1) ∷ []) c.reserve.ensures.items)
+    ∙ map-with_horizon names c.self.inside.horizons c.self.invariant.horizons_are in
     c.name_ends.ensures.names ∙ ap (λ ps. fold with_end ps c.as_slice-tokens.result.now) horizon_named
     ∙ ap (fold with_end (with_horizon (map named names))) c.as_slice-tokens.ensures
 
