@@ -1,8 +1,9 @@
 -- The numbers of points, and the points of a further extension.
-use Rattle.std.proofs.Common.{◌≡◌, ◌≢◌, ℕ, suc, take, ◌+◌, ◌<◌, ◌≤◌, ◌^◌, Bool, true, false, cond, nat_eq, List, [], ◌∷◌, ◌++◌, length, filter, map, fold, get_or, set, slice_index, slice_set, refl, sym, ap, ◌∙◌, arith, append_assoc, inl, inr}
+use Rattle.std.proofs.Common.{◌≡◌, ◌≢◌, ℕ, zero, suc, take, count_by, slice_get, Some, None, add-zero, ◌+◌, ◌<◌, ◌≤◌, ◌^◌, Bool, true, false, cond, nat_eq, List, [], ◌∷◌, ◌++◌, length, filter, map, fold, get_or, set, slice_index, slice_set, refl, sym, ap, ◌∙◌, arith, append_assoc, inl, inr}
 use Rattle.std.proofs.lemmas.Bool.{cases_eq}
 use Rattle.std.proofs.lemmas.Bool.Decides.{eqb_tells}
 use Rattle.std.proofs.lemmas.List.{append-nil, map-append, length-append, length-map, length_push, get_or-set_same, get_or-set_other}
+use Rattle.std.proofs.lemmas.Option.{slice_get_past}
 use Rattle.std.proofs.lemmas.Grind.{flat_map-append}
 use Rattle.std.proofs.lemmas.List.Elements.{filter-append}
 use Rattle.std.proofs.lemmas.List.Sums.{count_by-le-length, length-filter}
@@ -168,3 +169,70 @@ count-push before e =
 pub fewer-next : (es xs : List Extension) (i : ℕ) (e : Extension) (ps : List Point) → xs ≡ es → i < length xs → e ≡ get_or xs i e → ps ≡ points_of (take i es) → count es < 2 ^ 32 → length ps + length e.tokens + 1 < 2 ^ 32
 fewer-next es xs i e ps same h is points few =
     omega (arith, length-join_after-take new_points [] es (i + 1), ap count (take-next es xs i e same h is), count-push (take i es) e, ap length points)
+
+slice_get-append : {X : Type 0} (xs ys : List X) (i : ℕ) → i < length xs → slice_get (xs ++ ys) i ≡ slice_get xs i
+slice_get-append [] ys i h = absurd (omega arith)
+slice_get-append (x ∷ xs) ys zero h = refl
+slice_get-append (x ∷ xs) ys (suc i) h = slice_get-append xs ys i (omega arith)
+
+slice_get-push : {X : Type 0} (xs : List X) (y : X) → slice_get (xs ++ y ∷ []) (length xs) ≡ Some y
+slice_get-push [] y = refl
+slice_get-push (x ∷ xs) y = slice_get-push xs y
+
+-- the points before new ends keep their numbers
+pub slice_get-fold : (ps : List Point) (ks : List Kind) (i : ℕ) → i < length ps → slice_get (fold with_end ps ks) i ≡ slice_get ps i
+slice_get-fold ps [] i h = refl
+slice_get-fold ps (k ∷ ks) i h =
+    slice_get-fold (with_end ps k) ks i (omega (arith, length_push ps (ending k.sv.0 (ends_in ps k.sv.0)))) ∙ slice_get-append ps (ending k.sv.0 (ends_in ps k.sv.0) ∷ []) i h
+
+length-fold : (ps : List Point) (ks : List Kind) → length (fold with_end ps ks) ≡ length ps + length ks
+length-fold ps [] = omega arith
+length-fold ps (k ∷ ks) = omega (arith, length-fold (with_end ps k) ks, length_push ps (ending k.sv.0 (ends_in ps k.sv.0)))
+
+-- past the new ends there is no point
+pub slice_get-fold_past : (ps : List Point) (ks : List Kind) (i : ℕ) → length ks ≤ i → slice_get (fold with_end ps ks) (length ps + i) ≡ None
+slice_get-fold_past ps ks i h = slice_get_past (fold with_end ps ks) (length ps + i) (omega (arith, length-fold ps ks))
+
+length-cond_more : {X : Type 0} (b : Bool) (x : X) (xs : List X) → length (cond b (x ∷ xs) xs) ≡ number b + length xs
+length-cond_more true x xs = omega arith
+length-cond_more false x xs = omega arith
+
+-- a new end's place counts its variable's tokens before it
+slice_get-fold_new : (ps : List Point) (ks : List Kind) (i : ℕ) (d : Kind) → i < length ks
+    → slice_get (fold with_end ps ks) (length ps + i) ≡ Some (ending (get_or ks i d).sv.0 (ends_in ps (get_or ks i d).sv.0 + length (timeline_of (take i ks) (get_or ks i d).sv.0)))
+slice_get-fold_new ps [] i d h = absurd (omega arith)
+slice_get-fold_new ps (k ∷ ks) zero d h =
+    let longer = length_push ps (ending k.sv.0 (ends_in ps k.sv.0)) in
+    ap (slice_get (fold with_end (with_end ps k) ks)) (add-zero (length ps))
+    ∙ slice_get-fold (with_end ps k) ks (length ps) (omega (arith, longer))
+    ∙ slice_get-push ps (ending k.sv.0 (ends_in ps k.sv.0))
+    ∙ ap (λ n. Some (ending k.sv.0 n)) (sym (add-zero (ends_in ps k.sv.0)))
+slice_get-fold_new ps (k ∷ ks) (suc i) d h =
+    let v = (get_or ks i d).sv.0 in
+    let longer = length_push ps (ending k.sv.0 (ends_in ps k.sv.0)) in
+    let place : ends_in (with_end ps k) v + length (timeline_of (take i ks) v) ≡ ends_in ps v + length (timeline_of (k ∷ take i ks) v) =
+    omega (arith, ends_in-push ps v k.sv.0 (ends_in ps k.sv.0), length-cond_more (nat_eq k.sv.0 v) k (timeline_of (take i ks) v)) in
+    let seam : length ps + suc i ≡ length (with_end ps k) + i = omega (arith, longer) in
+    ap (slice_get (fold with_end (with_end ps k) ks)) seam
+    ∙ slice_get-fold_new (with_end ps k) ks i d (omega arith)
+    ∙ ap (λ n. Some (ending v n)) place
+
+-- the same from a list of counts
+pub slice_get-fold_counted : (ps : List Point) (counts : List ℕ) (ks : List Kind) (i : ℕ) (d : Kind) (before earlier : ℕ) → CountsTokens ps counts → i < length ks
+    → before ≡ slice_index counts (get_or ks i d).sv.0 → earlier ≡ count_by (λ k. nat_eq k.sv.0 (get_or ks i d).sv.0) (take i ks)
+    → Some (ending (get_or ks i d).sv.0 (before + earlier)) ≡ slice_get (fold with_end ps ks) (length ps + i)
+slice_get-fold_counted ps counts ks i d before earlier counted h b e =
+    let v = (get_or ks i d).sv.0 in
+    ap (λ n. Some (ending v n)) (omega (arith, b, counted v, e, length-filter (λ k. nat_eq k.sv.0 v) (take i ks))) ∙ sym (slice_get-fold_new ps ks i d h)
+
+-- the points of a plan keep their numbers, and a new horizon point stands behind them
+pub with_extension-front : (ps : List Point) (e : Extension) (i : ℕ) → i < length ps → slice_get (with_extension ps e) i ≡ slice_get ps i
+with_extension-front ps e i h =
+    slice_get-fold (with_horizon ps) e.tokens i (omega (arith, length_push ps (horizon (horizons_in ps + 1)))) ∙ slice_get-append ps (horizon (horizons_in ps + 1) ∷ []) i h
+
+pub with_extension-horizon : (ps : List Point) (e : Extension) → slice_get (with_extension ps e) (length ps) ≡ Some (horizon (horizons_in ps + 1))
+with_extension-horizon ps e =
+    slice_get-fold (with_horizon ps) e.tokens (length ps) (omega (arith, length_push ps (horizon (horizons_in ps + 1)))) ∙ slice_get-push ps (horizon (horizons_in ps + 1))
+
+pub counts-with_horizon : (ps : List Point) (counts : List ℕ) → CountsTokens ps counts → CountsTokens (with_horizon ps) counts
+counts-with_horizon ps counts c = λ v. c v ∙ sym (ends_in-horizon ps v (horizons_in ps + 1))

@@ -1,7 +1,7 @@
-ghost use Rattle.std.specs.Prelude.{◌≡◌, ℕ, ◌+◌, ◌^◌, ◌<◌, ◌≤◌, [], ◌∷◌, ◌++◌, List, length, slice_get, slice_index, map, fold, option_map, vec_len, vec_capacity, All, IfOk, OnOk, OnErr};
+ghost use Rattle.std.specs.Prelude.{◌≡◌, ℕ, ◌+◌, ◌^◌, ◌<◌, ◌≤◌, ◌==◌, [], ◌∷◌, ◌++◌, List, length, slice_get, slice_index, map, count_by, fold, option_map, vec_len, vec_capacity, All, IfOk, OnOk, OnErr};
 ghost use Rattle.hs_base.specs.declared.mission.Kind.{Kind};
 ghost use Rattle.hs_base.specs.declared.plan.Extension.{Extension};
-ghost use Rattle.hs_base.specs.Points.{count, points_of};
+ghost use Rattle.hs_base.specs.Points.{Point, count, points_of};
 ghost use Rattle.plan_text.specs.Named.{named, with_end, with_extension, CountsTokens};
 
 use hs_base::{Extension, Kind, Memory, Plan, PointId, TokenRef};
@@ -73,6 +73,31 @@ fn name_ends(names: &mut Vec<PointName>, counts: &mut Vec<u32>, tokens: &[Kind])
     }
 }
 
+/// How many of the tokens are of the variable.
+fn count_of(tokens: &[Kind], sv: u32) -> usize
+    ensures { result ≡ count_by (λ k. k.sv.0 == sv) tokens.now }
+{
+    tokens.iter().filter(|k| k.sv.0 == sv).count()
+}
+
+/// The name of the end of a new token, by its number among the new ones.
+fn new_end(counts: &[u32], tokens: &[Kind], i: usize) -> Option<PointName>
+    requires { (v : ℕ) → slice_index counts.now v + i < 2 ^ 32 }
+    ensures { (ps : List Point) → CountsTokens ps counts.now
+        → option_map named result ≡ slice_get (fold with_end ps tokens.now) (length ps + i) }
+{
+    if i >= tokens.len() {
+        return None;
+    }
+    let sv = tokens[i].sv;
+    let before = counts.get(sv.0 as usize).copied().unwrap_or(0);
+    let earlier = count_of(&tokens[..i], sv.0);
+    Some(PointName::End(TokenRef {
+        sv,
+        place: before + earlier as u32,
+    }))
+}
+
 impl PointNames {
     /// The points of the plan with no extension.
     pub fn new(alloc: Global) -> Result<PointNames, Memory>
@@ -92,6 +117,22 @@ impl PointNames {
         ensures { option_map named result ≡ slice_get self.now point.0 }
     {
         self.names.get(point.0 as usize).copied()
+    }
+
+    /// The name of a point of the plan with a further extension; None where it doesn't have it.
+    pub fn get_with(&self, extension: &Extension, point: PointId) -> Option<PointName>
+        requires { length self.now + 1 < 2 ^ 32 }
+        ensures { option_map named result ≡ slice_get (with_extension self.now extension.now) point.0 }
+    {
+        let number = point.0 as usize;
+        if number < self.names.len() {
+            return self.get(point);
+        }
+        let new = number - self.names.len();
+        if new == 0 {
+            return Some(PointName::Horizon(self.horizons + 1));
+        }
+        new_end(&self.tokens, extension.tokens.as_slice(), new - 1)
     }
 
     /// The points of a plan.

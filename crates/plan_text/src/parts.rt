@@ -1,10 +1,10 @@
-ghost use Rattle.std.specs.Prelude.{◌≡◌, ◌++◌, OnOk};
+ghost use Rattle.std.specs.Prelude.{◌≡◌, ◌+◌, ◌^◌, ◌<◌, ◌++◌, length, OnOk};
 ghost use Rattle.std.specs.Fmt.{decimal, signed_decimal};
 ghost use Rattle.hs_base.specs.Written.{variable_name, value_name, spelled_point, point_in, token_text, bound_in};
-ghost use Rattle.plan_text.specs.Named.{named};
+ghost use Rattle.plan_text.specs.Named.{named, with_extension};
 
 use crate::{PointName, PointNames};
-use hs_base::{Bound, Kind, Memory, Mission, PointId, SvId, Text, TokenRef};
+use hs_base::{Bound, Extension, Kind, Memory, Mission, PointId, SvId, Text, TokenRef};
 
 /// Puts a number at the end, by its decimal digits.
 pub fn push_number(text: &mut Text, number: u64) -> Result<(), Memory>
@@ -101,4 +101,40 @@ pub fn push_bound(
     push_point(text, mission, names, bound.to)?;
     text.push_bytes(b" most ")?;
     push_signed(text, bound.most)
+}
+
+/// Puts a bound at the end, between points of the plan with a further extension.
+pub fn push_bound_with(
+    text: &mut Text,
+    mission: &Mission,
+    names: &PointNames,
+    extension: &Extension,
+    bound: &Bound,
+) -> Result<(), Memory>
+    requires { length names.now + 1 < 2 ^ 32 }
+    ensures { OnOk result (text.new
+        ≡ text.old ++ bound_in mission.now (with_extension names.now extension.now) bound.now) }
+{
+    push_point_with(text, mission, names, extension, bound.from)?;
+    text.push_bytes(b" to ")?;
+    push_point_with(text, mission, names, extension, bound.to)?;
+    text.push_bytes(b" most ")?;
+    push_signed(text, bound.most)
+}
+
+fn push_point_with(
+    text: &mut Text,
+    mission: &Mission,
+    names: &PointNames,
+    extension: &Extension,
+    point: PointId,
+) -> Result<(), Memory>
+    requires { length names.now + 1 < 2 ^ 32 }
+    ensures { OnOk result (text.new
+        ≡ text.old ++ point_in mission.now (with_extension names.now extension.now) point.0) }
+{
+    match names.get_with(extension, point) {
+        Some(name) => push_name(text, mission, name),
+        None => Ok(()),
+    }
 }

@@ -19,6 +19,6 @@ loop-extension-preserved c =
     let next = take-next es c.as_slice-extension-items.result.now i e c.as_slice-extension-items.ensures c.loop-extension-test.true c.extension-item.is in
     let names : c.extend.new.self ≡ points_of (take i es ++ e ∷ []) = c.in_ok-extend.ensures.points (take i es) c.loop-extension.invariant.0 in
     let text =
-      join_after-next (extension_text m) (take i es) e (codes "hsts plan 1\n") c.loop-extension.text (extension_in m c.loop-extension.names e) c.push_extension.new.text c.loop-extension.invariant.1 c.in_ok-push_extension.ensures
-      (ap (λ ps. extension_in m ps e) c.loop-extension.invariant.0) in
+    join_after-next (extension_text m) (take i es) e (codes "hsts plan 1\n") c.loop-extension.text (extension_in m c.loop-extension.names e) c.push_extension.new.text c.loop-extension.invariant.1 c.in_ok-push_extension.ensures
+    (ap (λ ps. extension_in m ps e) c.loop-extension.invariant.0) in
     rw next (names, text)
