@@ -1,0 +1,5 @@
+pub mod ListLemmas
+pub mod ParserLemmas
+pub mod ThenLemmas
+pub mod ChoiceLemmas
+pub mod ManyLemmas
