@@ -1,0 +1,4 @@
+//! The texts of histories.
+#![tactic(auto)]
+
+mod deeds;
