@@ -2,3 +2,5 @@
 #![tactic(auto)]
 
 mod deeds;
+mod phases;
+mod progress;

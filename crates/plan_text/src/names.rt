@@ -112,6 +112,13 @@ impl PointNames {
         })
     }
 
+    /// The number of points.
+    pub fn len(&self) -> usize
+        ensures { result ≡ length self.now }
+    {
+        self.names.len()
+    }
+
     /// The name of a point; None where the plan doesn't have it.
     pub fn get(&self, point: PointId) -> Option<PointName>
         ensures { option_map named result ≡ slice_get self.now point.0 }
