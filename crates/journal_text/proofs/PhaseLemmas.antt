@@ -53,7 +53,7 @@ pub phase-with_plan : (h : List Entry) (p : PointId) → has_failed h ≡ false 
 phase-with_plan h p unfailed newest =
     let plan = has_horizon (plan_of h) p newest in
     let ended : has_ended h ≡ list_any (λ (e : Entry). executes_point p.0 e.deed) h =
-      ap (λ x. is_some (time_at (times_of h) x)) (sym plan.number) ∙ time_at-times h p.0 plan.later in
+    ap (λ x. is_some (time_at (times_of h) x)) (sym plan.number) ∙ time_at-times h p.0 plan.later in
     ap (λ b. cond b Failed (cond (is_empty (plan_of h)) Waiting (cond (has_ended h) Ended Running))) unfailed
     ∙ ap (λ b. cond b Waiting (cond (has_ended h) Ended Running)) plan.some
     ∙ ap (λ b. cond b Ended Running) ended

@@ -1,7 +1,8 @@
 -- The state after one more entry.
-use Rattle.std.proofs.Common.{◌≡◌, ◌≢◌, ℕ, ◌+◌, ◌≤◌, Bool, true, false, cond, List, [], ◌∷◌, ◌++◌, length, filter_map, Option, Some, None, option_to_list, refl, sym, ap, ◌∙◌, arith, add_assoc}
+use Rattle.std.proofs.Common.{◌≡◌, ◌≢◌, ℕ, ◌+◌, ◌≤◌, ◌<◌, ◌^◌, take, drop, Bool, true, false, cond, List, [], ◌∷◌, ◌++◌, length, filter_map, Option, Some, None, option_to_list, refl, sym, ap, ◌∙◌, arith, add_assoc}
 use Rattle.std.specs.List.{cons_option}
-use Rattle.std.proofs.lemmas.List.{append-nil, length_push}
+use Rattle.std.proofs.lemmas.Grind.{flat_map-append}
+use Rattle.std.proofs.lemmas.List.{append-nil, length_push, length-append, take-append-drop}
 use Rattle.std.proofs.lemmas.List.Elements.{filter_map-append}
 use Rattle.hs_base.specs.declared.ids.PointId.{PointId}
 use Rattle.hs_base.specs.declared.plan.Extension.{Extension}
@@ -10,9 +11,9 @@ use Rattle.hs_base.specs.declared.mission.Mission.{Mission}
 use Rattle.hs_base.specs.declared.history.Deed.{Deed}
 use Rattle.hs_base.specs.declared.history.Deed.TheVariants.{Tick, Fire, Report, Handover, Stale, Late, Early, Broken}
 use Rattle.hs_base.specs.declared.history.Entry.{Entry}
-use Rattle.hs_base.specs.Points.{Point, points_of, hor, count}
+use Rattle.hs_base.specs.Points.{Point, points_of, tokens_of, hor, count}
 use Rattle.hs_base.specs.State.{is_tick, hands_over, ticks_of, now_of, plan_of}
-use Rattle.point_laws.proofs.PointLemmas.{horizon_number}
+use Rattle.point_laws.proofs.PointLemmas.{horizon_number, count_is, count-push}
 use Rattle.journal_text.specs.Stands.{newest_horizon, StandsAt}
 
 pub now_of-push : (h : List Entry) (e : Entry) → now_of (h ++ e ∷ []) ≡ now_of h + ticks_of e
@@ -85,3 +86,21 @@ now_of-le (e ∷ h) = omega (arith, now_of-le h, one (is_tick e.deed))
     one : (b : Bool) → cond b 1 0 ≤ 1
     one true = omega arith
     one false = omega arith
+
+count-front : (es xs : List Extension) → count es ≤ count (es ++ xs)
+count-front es xs =
+    omega (arith, count_is es, count_is (es ++ xs), length-append es xs, ap length (flat_map-append (λ (x : Extension). x.tokens) es xs), length-append (tokens_of es) (tokens_of xs))
+
+-- a front of a history has no more points
+pub count-take : (h : List Entry) (i : ℕ) → count (plan_of (take i h)) ≤ count (plan_of h)
+count-take h i =
+    let whole : plan_of h ≡ plan_of (take i h) ++ plan_of (drop i h) =
+    ap plan_of (sym (take-append-drop i h)) ∙ filter_map-append (λ (x : Entry). hands_over x.deed) (take i h) (drop i h) in
+    omega (arith, ap count whole, count-front (plan_of (take i h)) (plan_of (drop i h)))
+
+-- there is a number for each point of a plan that is handed over
+pub fewer-handed : (h : List Entry) (i : ℕ) (e : Entry) (ps : List Point) (x : Extension) → take (i + 1) h ≡ take i h ++ e ∷ [] → ps ≡ points_of (plan_of (take i h)) → hands_over e.deed ≡ Some x → count (plan_of h) < 2 ^ 32 → length ps + length x.tokens + 1 < 2 ^ 32
+fewer-handed h i e ps x next points handed few =
+    let plan : plan_of (take (i + 1) h) ≡ plan_of (take i h) ++ x ∷ [] =
+    ap plan_of next ∙ plan_of-push (take i h) e ∙ ap (λ o. plan_of (take i h) ++ option_to_list o) handed in
+    omega (arith, ap length points, ap count plan, count-push (plan_of (take i h)) x, count-take h (i + 1))

@@ -2,5 +2,8 @@
 #![tactic(auto)]
 
 mod deeds;
+mod journal;
 mod phases;
 mod progress;
+
+pub use journal::write;
