@@ -1,5 +1,5 @@
 -- The calls of an object in memory, some of which are to fail.
-use Rattle.std.specs.Prelude.{ℕ, ◌+◌, ◌-◌, ◌^◌, min, Contains}
+use Rattle.std.specs.Prelude.{◌≡◌, ℕ, ◌+◌, ◌-◌, ◌^◌, min, Contains, Result, MatchResult}
 use Rattle.hs_port.specs.declared.failing.Failing.{Failing}
 
 -- the next call is one of those that are to fail
@@ -17,3 +17,7 @@ answered f = record f { calls = one_more f.calls }
 -- after a call that failed
 abbrev pub failed : Failing → Failing
 failed f = record f { calls = one_more f.calls; faults = one_more f.faults }
+
+-- a call that fails counts one fault, and an answered one none
+abbrev pub CountsFaults : {T E : Type 0} → ℕ → ℕ → Result T E → Type 0
+CountsFaults before after result = MatchResult result (λ _. after ≡ before) (λ _. after ≡ one_more before)

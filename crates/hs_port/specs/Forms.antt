@@ -1,9 +1,9 @@
 -- What contracts see of the objects in memory, and what a call makes of them.
-use Rattle.std.specs.Prelude.{ℕ, ℤ, ◌+◌, ◌-◌, List, [], ◌∷◌, ◌++◌, take, drop, slice_index_or}
+use Rattle.std.specs.Prelude.{ℕ, ℤ, ◌-◌, List, [], ◌∷◌, ◌++◌, take, drop, slice_index_or}
 use Rattle.hs_port.specs.declared.device.Answer.{Answer}
 use Rattle.hs_port.specs.declared.device.Answer.TheVariants.{Quiet}
 use Rattle.hs_port.specs.declared.failing.Failing.{Failing}
-use Rattle.hs_port.specs.Calls.{answered, failed}
+use Rattle.hs_port.specs.Calls.{answered}
 
 -- a source: the bytes left, and its calls
 pub record Reading : Type 0 where

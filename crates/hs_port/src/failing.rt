@@ -15,6 +15,7 @@ pub struct Failing {
 }
 
 impl Failing {
+    /// No call made yet; `fail` has the numbers of those that are to fail.
     pub fn begin(fail: List<u64>) -> Failing
         ensures { result ≡ record { fail = fail; calls = 0; faults = 0 } }
     {

@@ -18,6 +18,7 @@ pub trait Gate {
 pub struct NoGate;
 
 impl NoGate {
+    /// The open gate.
     pub fn new() -> NoGate {
         NoGate
     }

@@ -1,6 +1,5 @@
 ghost use Rattle.std.specs.Prelude.{◌≡◌, ◌⊎◌, ◌↔◌, ◌+◌, ◌-◌, ◌^◌, Some, IsErr, OnOk, OnErr};
 ghost use Rattle.hs_port.specs.Causes.{HasCause};
-ghost use Rattle.hs_port.specs.Told.{TicksOnce};
 ghost use Rattle.hs_port.specs.Calls.{IsToFail, answered, failed};
 
 use crate::failing::Failing;
@@ -47,7 +46,6 @@ impl Clock for MemClock {
     ghost faults = { λ s. s.calls.faults };
 
     fn tick(&mut self) -> Result<(), Failed>
-        ensures ticks { TicksOnce (Some self.old.ticks) (Some self.new.ticks) result }
         ensures cause { HasCause self.old.calls.faults self.new.calls.faults result }
         ensures fails { IsErr result ↔ (IsToFail self.old.calls ⊎ (self.old.ticks ≡ 2 ^ 64 - 1)) }
         ensures ok { OnOk result (self.new

@@ -7,6 +7,7 @@ use crate::{Clock, Failed};
 pub struct PlainClock;
 
 impl PlainClock {
+    /// The program's clock.
     pub fn new() -> PlainClock {
         PlainClock
     }

@@ -1,4 +1,8 @@
 ghost use Rattle.std.specs.Prelude.{◌≡◌, None};
+ghost use Rattle.std.specs.Io.{ReadsAtMost};
+ghost use Rattle.std.specs.Io.KnownBytes.{ReadConsumes};
+ghost use Rattle.hs_port.specs.Causes.{HasCause};
+ghost use Rattle.hs_port.specs.Calls.{CountsFaults};
 
 use crate::{Failed, Source};
 use std::io::Read;
@@ -11,6 +15,7 @@ pub struct StdSource<R> {
 }
 
 impl<R: Read> StdSource<R> {
+    /// The source of this reader's bytes.
     pub fn new(reader: R) -> StdSource<R>
         ensures { result ≡ record { reader = reader; faults = 0 } }
     {
@@ -30,7 +35,13 @@ impl<R: Read> Source for StdSource<R> {
 
     ghost faults = { λ s. s.faults };
 
-    fn read(&mut self, into: &mut [u8]) -> Result<usize, Failed> {
+    fn read(&mut self, into: &mut [u8]) -> Result<usize, Failed>
+        ensures bound { ReadsAtMost result into.new }
+        ensures reader { ReadConsumes (R.remaining self.old.reader) (R.remaining self.new.reader)
+            result into.new }
+        ensures cause { HasCause self.old.faults self.new.faults result }
+        ensures counts { CountsFaults self.old.faults self.new.faults result }
+    {
         match self.reader.read(into) {
             Ok(n) => Ok(n),
             Err(_) => {

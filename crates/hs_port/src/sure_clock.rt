@@ -7,6 +7,7 @@ use crate::{Clock, Failed};
 pub struct SureClock;
 
 impl SureClock {
+    /// The clock that never fails.
     pub fn new() -> SureClock {
         SureClock
     }

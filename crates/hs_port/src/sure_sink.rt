@@ -7,6 +7,7 @@ use crate::{Failed, Sink};
 pub struct SureSink;
 
 impl SureSink {
+    /// The sink that never fails.
     pub fn new() -> SureSink {
         SureSink
     }
