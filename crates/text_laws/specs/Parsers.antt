@@ -2,7 +2,7 @@
 use Rattle.std.specs.Prelude.{◌≡◌, ℕ, zero, suc, Bool, true, false, cond, nat_eq, ℤ, List, [], ◌∷◌, length, Option, Some, None, codes}
 use Rattle.std.specs.Str.{bytes_eq, byte}
 use Prim.Native.String.{String}
-use Rattle.hs_base.specs.Pieces.{Piece, word, number, symbol}
+use Rattle.hs_base.specs.Pieces.{Piece, word, symbol}
 use Rattle.hs_base.specs.Languages.{word_says, symbol_says, number_says}
 
 -- a value and the pieces left behind its own, or the pieces at which reading is stuck
@@ -65,3 +65,31 @@ keyword w = one (word_says (codes w))
 
 abbrev pub sign : String → Parser (Unit {0})
 sign c = one (symbol_says (byte c))
+
+abbrev pub number : Parser ℤ
+number = one number_says
+
+-- p behind a keyword, and behind a symbol
+abbrev pub after : {A : Type 0} → String → Parser A → Parser A
+after w p = keyword w >>= (λ _. p)
+
+abbrev pub behind : {A : Type 0} → String → Parser A → Parser A
+behind c p = sign c >>= (λ _. p)
+
+-- what begins with a keyword, or else this value
+abbrev pub maybe_after : {A : Type 0} → String → Parser A → A → Parser A
+maybe_after w p value = choose (is_word (codes w)) (after w p) (yields value)
+
+-- one or more, each of which begins with the keyword
+abbrev pub several : {A : Type 0} → String → Parser A → Parser (List A)
+several w p = do
+  first ← p
+  others ← many (is_word (codes w)) p
+  yields (first ∷ others)
+
+-- one or more, with a symbol between them
+abbrev pub apart : {A : Type 0} → String → Parser A → Parser (List A)
+apart c p = do
+  first ← p
+  others ← many (is_sign (byte c)) (behind c p)
+  yields (first ∷ others)
