@@ -15,7 +15,9 @@ use Rattle.hs_base.specs.Walks.{join_after}
 use Rattle.plan_text.specs.Named.{named, is_horizon, ends, horizons_in, ends_in, Counts, CountsTokens, with_end, with_horizon, with_extension}
 use Rattle.plan_text.specs.declared.names.PointName.{PointName}
 use Rattle.plan_text.specs.declared.names.PointName.TheVariants.{Horizon, End}
-use Rattle.plan_text.proofs.WalkLemmas.{join_after-push, length-join_after-take, take-next}
+use Rattle.point_laws.proofs.ListLemmas.{front_induction, slice_get-append_left, slice_get-middle}
+use Rattle.point_laws.proofs.PointLemmas.{end_points, tokens-push, points-push, count-push}
+use Rattle.plan_text.proofs.WalkLemmas.{length-join_after-take, take-next}
 
 -- 1 for a test that is passed
 abbrev number : Bool → ℕ
@@ -90,17 +92,14 @@ timeline-push before k v = ap length (filter-append (λ x. nat_eq x.sv.0 v) befo
 matches-push : (ps : List Point) (before : List Kind) (k : Kind) (i : ℕ) → Matches ps before → Matches (ps ++ ending k.sv.0 i ∷ []) (before ++ k ∷ [])
 matches-push ps before k i h = record { tokens = λ v. ends_in-push ps v k.sv.0 i ∙ ap (λ n. n + number (nat_eq k.sv.0 v)) (h.tokens v) ∙ sym (timeline-push before k v) }
 
-abbrev end_of : TokenRef → Point
-end_of t = ending t.sv.0 t.place
-
--- new tokens end where refs_after names them
-fold-with_end : (ps : List Point) (before ks : List Kind) → Matches ps before → fold with_end ps ks ≡ ps ++ map end_of (refs_after before ks)
+-- new tokens end at their end points
+fold-with_end : (ps : List Point) (before ks : List Kind) → Matches ps before → fold with_end ps ks ≡ ps ++ end_points before ks
 fold-with_end ps before [] h = sym (append-nil ps)
 fold-with_end ps before (k ∷ ks) h =
     let named_so : ends_in ps k.sv.0 ≡ length (timeline_of before k.sv.0) = h.tokens k.sv.0 in
     let step = fold-with_end (with_end ps k) (before ++ k ∷ []) ks (matches-push ps before k (ends_in ps k.sv.0) h) in
-    step ∙ append_assoc ps (ending k.sv.0 (ends_in ps k.sv.0) ∷ []) (map end_of (refs_after (before ++ k ∷ []) ks))
-    ∙ ap (λ n. ps ++ ending k.sv.0 n ∷ map end_of (refs_after (before ++ k ∷ []) ks)) named_so
+    step ∙ append_assoc ps (ending k.sv.0 (ends_in ps k.sv.0) ∷ []) (end_points (before ++ k ∷ []) ks)
+    ∙ ap (λ n. ps ++ ending k.sv.0 n ∷ end_points (before ++ k ∷ []) ks) named_so
 
 matches-fold : (ps : List Point) (before ks : List Kind) → Matches ps before → Matches (fold with_end ps ks) (before ++ ks)
 matches-fold ps before [] h = rw append-nil h
@@ -118,37 +117,30 @@ matches-horizon ps before k h = record { tokens = λ v. ends_in-horizon ps v k �
 -- counted points go on as new_points says
 with_extension-new : (ps : List Point) (before : List Extension) (e : Extension) → IsCounted ps before → with_extension ps e ≡ ps ++ new_points before e
 with_extension-new ps before e h =
-    let rest = map end_of (refs_after (tokens_of before) e.tokens) in
+    let rest = end_points (tokens_of before) e.tokens in
     fold-with_end (with_horizon ps) (tokens_of before) e.tokens (matches-horizon ps (tokens_of before) (horizons_in ps + 1) h.tokens)
     ∙ append_assoc ps (horizon (horizons_in ps + 1) ∷ []) rest
     ∙ ap (λ n. ps ++ horizon (n + 1) ∷ rest) h.extensions
 
-tokens_of-push : (before : List Extension) (e : Extension) → tokens_of (before ++ e ∷ []) ≡ tokens_of before ++ e.tokens
-tokens_of-push before e = flat_map-append (λ (x : Extension). x.tokens) before (e ∷ []) ∙ ap (λ ks. tokens_of before ++ ks) (append-nil e.tokens)
-
 counted-extension : (ps : List Point) (before : List Extension) (e : Extension) → IsCounted ps before → IsCounted (with_extension ps e) (before ++ e ∷ [])
 counted-extension ps before e h = record {
-  tokens = rw tokens_of-push (matches-fold (with_horizon ps) (tokens_of before) e.tokens (matches-horizon ps (tokens_of before) (horizons_in ps + 1) h.tokens));
+  tokens = rw tokens-push (matches-fold (with_horizon ps) (tokens_of before) e.tokens (matches-horizon ps (tokens_of before) (horizons_in ps + 1) h.tokens));
   extensions =
       horizons_in-fold (with_horizon ps) e.tokens ∙ horizons_in-horizon ps (horizons_in ps + 1) ∙ ap (λ n. n + 1) h.extensions ∙ sym (length_push before e);
 }
 
-counted-all : (ps : List Point) (before es : List Extension) → IsCounted ps before → IsCounted (ps ++ join_after new_points before es) (before ++ es)
-counted-all ps before [] h = rw (append-nil ps, append-nil before) h
-counted-all ps before (e ∷ es) h =
-    let later = join_after new_points (before ++ e ∷ []) es in
-    let more = counted-all (ps ++ new_points before e) (before ++ e ∷ []) es (rw (← with_extension-new ps before e h) (counted-extension ps before e h)) in
-    rw (append_assoc ps (new_points before e) later, append_assoc before (e ∷ []) es) at more
-
+-- so the points of each plan are counted
 counted-points : (es : List Extension) → IsCounted (points_of es) es
-counted-points es = counted-all (origin ∷ []) [] es (record { tokens = record { tokens = λ v. refl }; extensions = refl })
-
-points_of-push : (before : List Extension) (e : Extension) → points_of (before ++ e ∷ []) ≡ points_of before ++ new_points before e
-points_of-push before e = ap (λ ps. origin ∷ ps) (join_after-push new_points [] before e)
+counted-points es =
+    let Counted : List Extension → Type 0 = λ es. IsCounted (points_of es) es in
+    let none : Counted [] = record { tokens = record { tokens = λ v. refl }; extensions = refl } in
+    let more : (before : List Extension) (e : Extension) → Counted before → Counted (before ++ e ∷ []) =
+    λ before e h. rw (points-push before e, ← with_extension-new (points_of before) before e h) (counted-extension (points_of before) before e h) in
+    front_induction Counted none more es
 
 -- a plan's points and those of a further extension are those of the plan with it
 pub with_extension-points_of : (before : List Extension) (e : Extension) → with_extension (points_of before) e ≡ points_of (before ++ e ∷ [])
-with_extension-points_of before e = with_extension-new (points_of before) before e (counted-points before) ∙ sym (points_of-push before e)
+with_extension-points_of before e = with_extension-new (points_of before) before e (counted-points before) ∙ sym (points-push before e)
 
 -- the numbers after one more extension
 pub counts-with_extension : (ps : List Point) (e : Extension) (horizons : ℕ) (tokens : List ℕ) → horizons ≡ horizons_in ps → CountsTokens (with_extension ps e) tokens → Counts (with_extension ps e) (horizons + 1) tokens
@@ -157,33 +149,16 @@ counts-with_extension ps e horizons tokens h c = record {
   tokens_are = c;
 }
 
-length-refs_after : (before ks : List Kind) → length (refs_after before ks) ≡ length ks
-length-refs_after before [] = refl
-length-refs_after before (k ∷ ks) = ap suc (length-refs_after (before ++ k ∷ []) ks)
-
-count-push : (before : List Extension) (e : Extension) → count (before ++ e ∷ []) ≡ count before + length e.tokens + 1
-count-push before e =
-    omega (arith, ap length (points_of-push before e), length-append (points_of before) (new_points before e), length-map (refs_after (tokens_of before) e.tokens) end_of, length-refs_after (tokens_of before) e.tokens)
-
 -- there is a number for each point of the extension that a loop over a plan reads
 pub fewer-next : (es xs : List Extension) (i : ℕ) (e : Extension) (ps : List Point) → xs ≡ es → i < length xs → e ≡ get_or xs i e → ps ≡ points_of (take i es) → count es < 2 ^ 32 → length ps + length e.tokens + 1 < 2 ^ 32
 fewer-next es xs i e ps same h is points few =
     omega (arith, length-join_after-take new_points [] es (i + 1), ap count (take-next es xs i e same h is), count-push (take i es) e, ap length points)
 
-slice_get-append : {X : Type 0} (xs ys : List X) (i : ℕ) → i < length xs → slice_get (xs ++ ys) i ≡ slice_get xs i
-slice_get-append [] ys i h = absurd (omega arith)
-slice_get-append (x ∷ xs) ys zero h = refl
-slice_get-append (x ∷ xs) ys (suc i) h = slice_get-append xs ys i (omega arith)
-
-slice_get-push : {X : Type 0} (xs : List X) (y : X) → slice_get (xs ++ y ∷ []) (length xs) ≡ Some y
-slice_get-push [] y = refl
-slice_get-push (x ∷ xs) y = slice_get-push xs y
-
 -- the points before new ends keep their numbers
 pub slice_get-fold : (ps : List Point) (ks : List Kind) (i : ℕ) → i < length ps → slice_get (fold with_end ps ks) i ≡ slice_get ps i
 slice_get-fold ps [] i h = refl
 slice_get-fold ps (k ∷ ks) i h =
-    slice_get-fold (with_end ps k) ks i (omega (arith, length_push ps (ending k.sv.0 (ends_in ps k.sv.0)))) ∙ slice_get-append ps (ending k.sv.0 (ends_in ps k.sv.0) ∷ []) i h
+    slice_get-fold (with_end ps k) ks i (omega (arith, length_push ps (ending k.sv.0 (ends_in ps k.sv.0)))) ∙ slice_get-append_left ps (ending k.sv.0 (ends_in ps k.sv.0) ∷ []) i h
 
 length-fold : (ps : List Point) (ks : List Kind) → length (fold with_end ps ks) ≡ length ps + length ks
 length-fold ps [] = omega arith
@@ -205,7 +180,7 @@ slice_get-fold_new ps (k ∷ ks) zero d h =
     let longer = length_push ps (ending k.sv.0 (ends_in ps k.sv.0)) in
     ap (slice_get (fold with_end (with_end ps k) ks)) (add-zero (length ps))
     ∙ slice_get-fold (with_end ps k) ks (length ps) (omega (arith, longer))
-    ∙ slice_get-push ps (ending k.sv.0 (ends_in ps k.sv.0))
+    ∙ slice_get-middle ps (ending k.sv.0 (ends_in ps k.sv.0)) []
     ∙ ap (λ n. Some (ending k.sv.0 n)) (sym (add-zero (ends_in ps k.sv.0)))
 slice_get-fold_new ps (k ∷ ks) (suc i) d h =
     let v = (get_or ks i d).sv.0 in
@@ -228,11 +203,11 @@ slice_get-fold_counted ps counts ks i d before earlier counted h b e =
 -- the points of a plan keep their numbers, and a new horizon point stands behind them
 pub with_extension-front : (ps : List Point) (e : Extension) (i : ℕ) → i < length ps → slice_get (with_extension ps e) i ≡ slice_get ps i
 with_extension-front ps e i h =
-    slice_get-fold (with_horizon ps) e.tokens i (omega (arith, length_push ps (horizon (horizons_in ps + 1)))) ∙ slice_get-append ps (horizon (horizons_in ps + 1) ∷ []) i h
+    slice_get-fold (with_horizon ps) e.tokens i (omega (arith, length_push ps (horizon (horizons_in ps + 1)))) ∙ slice_get-append_left ps (horizon (horizons_in ps + 1) ∷ []) i h
 
 pub with_extension-horizon : (ps : List Point) (e : Extension) → slice_get (with_extension ps e) (length ps) ≡ Some (horizon (horizons_in ps + 1))
 with_extension-horizon ps e =
-    slice_get-fold (with_horizon ps) e.tokens (length ps) (omega (arith, length_push ps (horizon (horizons_in ps + 1)))) ∙ slice_get-push ps (horizon (horizons_in ps + 1))
+    slice_get-fold (with_horizon ps) e.tokens (length ps) (omega (arith, length_push ps (horizon (horizons_in ps + 1)))) ∙ slice_get-middle ps (horizon (horizons_in ps + 1)) []
 
 pub counts-with_horizon : (ps : List Point) (counts : List ℕ) → CountsTokens ps counts → CountsTokens (with_horizon ps) counts
 counts-with_horizon ps counts c = λ v. c v ∙ sym (ends_in-horizon ps v (horizons_in ps + 1))
