@@ -4,3 +4,4 @@ pub mod JoinedLemmas
 pub mod NarrowLemmas
 pub mod SettingLemmas
 pub mod WindowsLemmas
+pub mod FreshLemmas

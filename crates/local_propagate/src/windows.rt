@@ -1,4 +1,4 @@
-ghost use Rattle.std.specs.Prelude.{◌≡◌, ◌≢◌, ◌↔◌, ◌<◌, ◌≤◌, ◌≤ℤ◌, ◌<ℤ◌, ℕ, ℤ, pos, neg_ℤ, All, Contains, IfOk, IsTrue, None, Some, length, map, replicate, slice_index_or, slice_set};
+ghost use Rattle.std.specs.Prelude.{◌≡◌, ◌⊎◌, ◌↔◌, ◌<◌, ◌≤◌, ◌≤ℤ◌, ◌<ℤ◌, ℕ, ℤ, pos, neg_ℤ, All, Contains, IfOk, IsTrue, None, Some, length, map, replicate, slice_index_or, slice_set};
 ghost use Rattle.std.specs.List.{fold, count_by};
 ghost use Rattle.local_propagate.specs.Joined.{IsJoined, IsNear};
 ghost use Rattle.local_propagate.specs.Narrowed.{is_negative, raised, lowered, released};
@@ -100,7 +100,10 @@ fn release(before: &[Neighbour], waits: &mut [usize])
 }
 
 impl Windows {
-    ghost use Rattle.local_propagate.specs.Windows.{AreWindowsOf, AreApart, times_of, time_of, low_of, high_of};
+    ghost use Rattle.hs_base.specs.declared.net.Net.{Net};
+    ghost use Rattle.hs_base.specs.Windows.{IsLow, IsHigh, AreSet};
+    ghost use Rattle.local_propagate.specs.Joined.{leader_at};
+    ghost use Rattle.local_propagate.specs.Windows.{AreWindowsOf, AreApart, times_of, time_of, set_times, low_of, high_of};
 
     /// The windows of a network's groups, none of them set. Neighbours are listed once, in time and
     /// memory linear in the network.
@@ -154,7 +157,9 @@ impl Windows {
     /// that its edges to set groups leave.
     pub fn low(&self, group: u32) -> i64
         requires { group < length (times_of self.now) }
-        ensures { result ≡ low_of self.now group }
+        ensures value { result ≡ low_of self.now group }
+        ensures set { (t : ℤ) → time_of self.now group ≡ Some t → result ≡ t }
+        ensures unset { (net : Net) → AreWindowsOf net self.now → time_of self.now group ≡ None → IsLow net.edges (set_times net self.now) (leader_at net group) result }
     {
         match self.times[group as usize] {
             Some(at) => at,
@@ -166,11 +171,35 @@ impl Windows {
     /// that edges from set groups leave.
     pub fn high(&self, group: u32) -> i64
         requires { group < length (times_of self.now) }
-        ensures { result ≡ high_of self.now group }
+        ensures value { result ≡ high_of self.now group }
+        ensures set { (t : ℤ) → time_of self.now group ≡ Some t → result ≡ t }
+        ensures unset { (net : Net) → AreWindowsOf net self.now → time_of self.now group ≡ None → IsHigh net.edges (set_times net self.now) (leader_at net group) result }
     {
         match self.times[group as usize] {
             Some(at) => at,
             None => self.high.at(group as usize),
+        }
+    }
+
+    /// Whether each negative edge of a group leads to a set one.
+    pub fn enabled(&self, _net: &Net, group: u32) -> bool
+        requires windows { AreWindowsOf _net.now self.now }
+        requires group { group < length (times_of self.now) }
+        ensures { IsTrue result ↔ AreSet _net.now.edges (set_times _net.now self.now) (leader_at _net.now group) }
+    {
+        self.waits[group as usize] == 0
+    }
+
+    /// The least latest time of the unset groups, or `NEVER` where all are set.
+    pub fn least_high(&self, _net: &Net) -> i64
+        requires { AreWindowsOf _net.now self.now }
+        ensures bound { (i : ℕ) → i < length (times_of self.now) → time_of self.now i ≡ None → result ≤ℤ high_of self.now i }
+        ensures reached { (result ≡ NEVER) ⊎ ((i : ℕ) × (i < length (times_of self.now)) × (time_of self.now i ≡ None) × (result ≡ high_of self.now i)) }
+    {
+        if self.times.is_empty() {
+            NEVER
+        } else {
+            self.high.least()
         }
     }
 }
