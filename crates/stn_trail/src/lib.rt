@@ -1,0 +1,11 @@
+//! Bounds added and taken back, with a schedule that keeps them.
+#![tactic(auto)]
+
+mod mark;
+mod moves;
+mod part;
+mod row;
+mod times;
+
+pub use mark::Mark;
+pub use part::Part;

@@ -1,0 +1,20 @@
+/// The bound that gave a point its time: bound number `place` of the row of point `to`.
+#[derive(Clone, Copy, Debug)]
+pub(crate) struct Cause {
+    pub to: u32,
+    pub place: u32,
+}
+
+/// No bound: the point stands where it was grown.
+pub(crate) const NO_CAUSE: Cause = Cause {
+    to: 0,
+    place: u32::MAX,
+};
+
+/// What a point had before it was moved.
+#[derive(Clone, Copy, Debug)]
+pub(crate) struct Move {
+    pub time: i64,
+    pub cause: Cause,
+    pub point: u32,
+}
