@@ -1,1 +1,3 @@
+pub mod CoveredLemmas
 pub mod MoveLemmas
+pub mod RaisingLemmas

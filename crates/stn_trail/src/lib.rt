@@ -4,7 +4,9 @@
 mod mark;
 mod moves;
 mod part;
+mod raised;
 mod row;
+mod spread;
 mod times;
 
 pub use mark::Mark;

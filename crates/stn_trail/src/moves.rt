@@ -5,6 +5,15 @@ pub(crate) struct Cause {
     pub place: u32,
 }
 
+impl Cause {
+    pub fn new(to: u32, place: usize) -> Cause {
+        Cause {
+            to,
+            place: u32::try_from(place).unwrap_or(u32::MAX),
+        }
+    }
+}
+
 /// No bound: the point stands where it was grown.
 pub(crate) const NO_CAUSE: Cause = Cause {
     to: 0,
