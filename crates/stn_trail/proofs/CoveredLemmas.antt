@@ -6,7 +6,7 @@ use Rattle.std.proofs.lemmas.List.Elements.{Contains-push, Contains-append_left}
 use Rattle.hs_base.specs.declared.net.Bound.{Bound}
 use Rattle.hs_base.specs.Schedule.{time_of, Holds}
 use Rattle.stn_trail.specs.declared.raised.Raised.{Raised}
-use Rattle.stn_trail.specs.Rows.{IsIn}
+use Rattle.stn_trail.specs.Rows.{row_at, IsIn}
 use Rattle.stn_trail.specs.Covered.{entry_of, IsCovered, AreCovered}
 
 -- an element of a list is its first or one of the rest
@@ -64,3 +64,31 @@ AreCovered-raised rows times waiting c left z h inside apart due later =
         ]
       ];
     }
+
+-- a waiting point is taken: the bounds that end there are left to be looked at
+pub AreCovered-taken : (rows : List (List Bound)) (times : List ℤ) (r : Raised) (rest : List Raised)
+    → AreCovered rows times (r ∷ rest) [] → AreCovered rows times rest (row_at rows r.point)
+AreCovered-taken rows times r rest h = record {
+  each = λ b i. elim (h.each b i) [
+    | inl holds ↦ inl holds
+    | inr (inr looks) ↦ absurd (let l = looks.1 in omega arith)
+    | inr (inl waits) ↦ elim (Contains-cons_cases r rest (entry_of times b.to.0) waits) [
+      | inl same ↦ inr (inr (subst (λ (v : ℕ). Contains (row_at rows v) b) (ap (λ (x : Raised). x.point) (sym same)) i))
+      | inr later ↦ inr (inl later)
+    ]
+  ];
+}
+
+-- an entry with an older time is let go
+pub AreCovered-stale : (rows : List (List Bound)) (times : List ℤ) (r : Raised) (rest : List Raised)
+    → AreCovered rows times (r ∷ rest) [] → (time_of times r.point ≡ r.time → ⊥) → AreCovered rows times rest []
+AreCovered-stale rows times r rest h old = record {
+  each = λ b i. elim (h.each b i) [
+    | inl holds ↦ inl holds
+    | inr (inr looks) ↦ absurd (let l = looks.1 in omega arith)
+    | inr (inl waits) ↦ elim (Contains-cons_cases r rest (entry_of times b.to.0) waits) [
+      | inl same ↦ absurd (old (ap (λ (x : Raised). time_of times x.point) same ∙ sym (ap (λ (x : Raised). x.time) same)))
+      | inr later ↦ inr (inl later)
+    ]
+  ];
+}

@@ -35,6 +35,14 @@ pub record Raises (rows : List (List Bound)) (point : ℕ) (row : List Bound) (h
   pub origin : time_of new.ticks.items 0 ≡ time_of old.ticks.items 0
   pub past : KeepsPast (vec_len old.moves) old.moves.items old.ticks.items new.moves.items new.ticks.items
 
+-- the loop over the queue
+pub record Spreads (rows : List (List Bound)) (old new : Times) (queue : List Raised) : Type 0 where
+  pub covered : AreCovered rows new.ticks.items queue []
+  pub below : AreBelow (length rows) queue
+  pub size : vec_len new.ticks ≡ vec_len old.ticks
+  pub origin : time_of new.ticks.items 0 ≡ time_of old.ticks.items 0
+  pub past : KeepsPast (vec_len old.moves) old.moves.items old.ticks.items new.moves.items new.ticks.items
+
 pub bound_in_row : (rows : List (List Bound)) (point : ℕ) (row : List Bound) (place : ℕ) (d : Bound) → row ≡ row_at rows point → place < length row
     → Contains (row_at rows point) (get_or row place d)
 bound_in_row rows point row place d e l = subst (λ (xs : List Bound). Contains xs (get_or row place d)) e (Contains-get_or row place d l)
