@@ -1,3 +1,4 @@
 pub mod CoveredLemmas
 pub mod MoveLemmas
 pub mod RaisingLemmas
+pub mod RoundLemmas

@@ -1,6 +1,7 @@
 //! Bounds added and taken back, with a schedule that keeps them.
 #![tactic(auto)]
 
+mod cycle;
 mod mark;
 mod moves;
 mod part;
