@@ -1,0 +1,6 @@
+pub mod CauseLemmas
+pub mod DistLemmas
+pub mod FoldedLemmas
+pub mod FoldingLemmas
+pub mod RowLemmas
+pub mod TraceLemmas

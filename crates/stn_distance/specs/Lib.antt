@@ -1,0 +1,7 @@
+pub mod Broken
+pub mod Causes
+pub mod Cycles
+pub mod Distances
+pub mod Folding
+pub mod Ranges
+pub mod Rows
