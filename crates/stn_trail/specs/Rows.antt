@@ -1,7 +1,6 @@
 -- Bounds by the points at which they end.
 use Rattle.std.specs.Prelude.{◌≡◌, ℕ, ◌<◌, Bool, List, [], length, slice_index_or, Contains, All, filter, nat_eq}
 use Rattle.hs_base.specs.declared.net.Bound.{Bound}
-use Rattle.hs_base.specs.Schedule.{IsBelow}
 
 -- the bounds that end at v
 abbrev pub row_at : List (List Bound) → ℕ → List Bound
@@ -22,5 +21,4 @@ ends_at v b = nat_eq b.to.0 v
 
 -- the rows have the bounds of the list, in its order
 pub record AreRowsOf (bounds : List Bound) (rows : List (List Bound)) : Type 0 where
-  pub below : All (IsBelow (length rows)) bounds
   pub each : (v : ℕ) → v < length rows → row_at rows v ≡ filter (ends_at v) bounds

@@ -1,4 +1,5 @@
-ghost use Rattle.std.specs.Prelude.{◌≡◌, ◌<◌, ◌≤◌, [], ◌∷◌, ◌++◌, All, length, drop, take, vec_len, slice_set, replicate, IfOk, OnOk, OnErr, pos};
+ghost use Rattle.std.specs.Prelude.{◌≡◌, ℕ, ◌<◌, ◌≤◌, [], ◌∷◌, ◌++◌, All, length, drop, take, vec_len, slice_set, replicate, IfOk, OnOk, OnErr, pos};
+ghost use Rattle.hs_base.specs.Schedule.{time_of};
 ghost use Rattle.stn_trail.specs.Moves.{restored, KeepsPast};
 
 use crate::moves::{Cause, Move, NO_CAUSE};
@@ -62,6 +63,21 @@ impl Times {
         })?;
         self.ticks[at] = time;
         self.causes[at] = cause;
+        Ok(())
+    }
+
+    /// Moves each point to its time of the list, with no cause.
+    pub fn adopt(&mut self, times: &[i64]) -> Result<(), Memory>
+        requires { (length times.now ≤ vec_len self.old.ticks) × (length times.now ≤ 131072) }
+        ensures adopted { OnOk result ((p : ℕ) → p < length times.now → time_of self.new.ticks.items p ≡ time_of times.now p) }
+        ensures size { vec_len self.new.ticks ≡ vec_len self.old.ticks }
+        ensures past { KeepsPast (vec_len self.old.moves) self.old.moves.items self.old.ticks.items self.new.moves.items self.new.ticks.items }
+    {
+        for (at, time) in times.iter().enumerate() {
+            if self.ticks[at] != *time {
+                self.set(at as u32, *time, NO_CAUSE)?;
+            }
+        }
         Ok(())
     }
 
