@@ -1,4 +1,6 @@
 pub mod CoveredLemmas
 pub mod MoveLemmas
+pub mod PartLemmas
 pub mod RaisingLemmas
 pub mod RoundLemmas
+pub mod RowLemmas

@@ -7,6 +7,7 @@ mod moves;
 mod part;
 mod raised;
 mod row;
+mod settle;
 mod solving;
 mod spread;
 mod times;

@@ -20,8 +20,9 @@ fn bounds_of(alloc: Global, steps: &[Step]) -> Result<Vec<Bound>, Memory>
 {
     let mut bounds = Vec::new(alloc);
     for step in steps {
-        if let Part::Added(bound) = step.part {
-            bounds.push(bound)?;
+        match step.part {
+            Part::Grown => {}
+            Part::Added(bound) => bounds.push(bound)?,
         }
     }
     Ok(bounds)
