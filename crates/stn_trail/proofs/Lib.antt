@@ -4,3 +4,4 @@ pub mod PartLemmas
 pub mod RaisingLemmas
 pub mod RoundLemmas
 pub mod RowLemmas
+pub mod SettleLemmas

@@ -12,6 +12,10 @@ impl Cause {
             place: u32::try_from(place).unwrap_or(u32::MAX),
         }
     }
+
+    pub fn is_none(self) -> bool {
+        self.place == NO_CAUSE.place
+    }
 }
 
 /// No bound: the point stands where it was grown.

@@ -49,3 +49,61 @@ fn raise_last(
         Found::Lost => Ok(Found::Lost),
     }
 }
+
+/// Notes the bound as the cause of its start, if it holds a point with no cause to the origin at
+/// exactly the time that it has.
+fn anchor(rows: &[Row], bound: Bound, times: &mut Times) -> Result<(), Memory>
+    requires start { bound.from.0 < vec_len times.old.ticks }
+    requires end { bound.to.0 < length rows.now }
+    requires some { 1 ≤ length (row_at rows.now bound.to.0) }
+    ensures same { times.new.ticks.items ≡ times.old.ticks.items }
+    ensures past { KeepsPast (vec_len times.old.moves) times.old.moves.items times.old.ticks.items times.new.moves.items times.new.ticks.items }
+{
+    let start = bound.from.0;
+    let end = bound.to.0;
+    if end != 0 || start == 0 || !times.causes[start as usize].is_none() {
+        return Ok(());
+    }
+    let time = times.ticks[start as usize];
+    if time.checked_add(bound.most) == Some(0) {
+        let last = rows[end as usize].as_slice().len() - 1;
+        times.set(start, time, Cause::new(end, last))?;
+    }
+    Ok(())
+}
+
+/// Moves times so that they keep the last bound as well as those before it, or says that none do.
+pub(crate) fn settle(
+    alloc: Global,
+    points: u32,
+    steps: &[Step],
+    rows: &[Row],
+    bound: Bound,
+    times: &mut Times,
+    queue: &mut Queue,
+) -> Result<(), Broken>
+    requires few { (1 ≤ points) × (points ≤ POINTS) }
+    requires range { All (IsInRange points) (added (parts_of steps.now)) }
+    requires bound { IsInRange points bound }
+    requires room { (points ≤ length rows.now) × (length rows.now ≤ vec_len times.old.ticks) }
+    requires rows { AreRowsOf (added (parts_of steps.now)) rows.now }
+    requires last { drop (length (row_at rows.now bound.to.0) - 1) (row_at rows.now bound.to.0) ≡ bound ∷ [] }
+    requires origin { time_of times.old.ticks.items 0 ≡ pos 0 }
+    requires covered { AreCovered rows.now times.old.ticks.items [] (bound ∷ []) }
+    ensures schedule { OnOk result (Meets (added (parts_of steps.now)) (time_of times.new.ticks.items)) }
+    ensures cycle { IfErr result (λ e. IfCycle e (IsNegativeCycle (added (parts_of steps.now)))) }
+    ensures none { IfErr result (λ e. IfCycle e (λ _. HasNoSchedule (added (parts_of steps.now)))) }
+    ensures times { vec_len times.new.ticks ≡ vec_len times.old.ticks }
+    ensures past { KeepsPast (vec_len times.old.moves) times.old.moves.items times.old.ticks.items times.new.moves.items times.new.ticks.items }
+{
+    anchor(rows, bound, times)?;
+    let limit = rows.len().saturating_mul(steps.len()).saturating_add(1);
+    match raise_last(rows, bound.to.0, limit, times, queue)? {
+        Found::Kept => Ok(()),
+        Found::Back(back) => match trace(alloc, rows, &times.causes, back)? {
+            Some(cycle) => Err(Broken::Cycle(cycle)),
+            None => solve_anew(alloc, points, steps, times),
+        },
+        Found::Lost => solve_anew(alloc, points, steps, times),
+    }
+}
