@@ -1,7 +1,9 @@
 pub mod CoveredLemmas
+pub mod HistoryLemmas
 pub mod MoveLemmas
 pub mod PartLemmas
 pub mod RaisingLemmas
 pub mod RoundLemmas
 pub mod RowLemmas
 pub mod SettleLemmas
+pub mod TrailLemmas

@@ -1,11 +1,13 @@
 -- The parts of a trail with the times that they had.
 use Rattle.std.specs.Prelude.{◌≡◌, ℕ, ◌+◌, ◌≤◌, List, length, map, take, slice_index_or, ℤ, All}
+use Rattle.hs_base.specs.declared.net.Bound.{Bound}
 use Rattle.hs_base.specs.Schedule.{time_of, Meets}
 use Rattle.stn_distance.specs.Ranges.{IsInRange}
 use Rattle.stn_trail.specs.declared.moves.Move.{Move}
 use Rattle.stn_trail.specs.declared.part.Part.{Part}
 use Rattle.stn_trail.specs.declared.part.Step.{Step}
 use Rattle.stn_trail.specs.Moves.{times_at}
+use Rattle.stn_trail.specs.Rows.{AreRowsOf}
 use Rattle.stn_trail.specs.Held.{grown, added}
 
 abbrev pub parts_of : List Step → List Part
@@ -25,10 +27,12 @@ pub record IsHistory (first : ℕ) (steps : List Step) (moves : List Move) (time
   pub rising : (j k : ℕ) → j ≤ k → k ≤ length steps → moves_at steps moves j ≤ moves_at steps moves k
   pub stood : (k : ℕ) → k ≤ length steps → StandsAt first (parts_of (take k steps)) (times_at (moves_at steps moves k) moves times)
 
--- the fields of a trail
-pub record IsTrail (first count : ℕ) (steps : List Step) (rows ticks : ℕ) : Type 0 where
+-- the fields of a trail: there is room for its points, its bounds stand in the rows, and its times keep them
+pub record IsTrail (first count : ℕ) (steps : List Step) (rows : List (List Bound)) (moves : List Move) (times : List ℤ) : Type 0 where
   pub some : 1 ≤ first
   pub counted : count ≡ first + grown (parts_of steps)
   pub few : count ≤ 131072
-  pub rows_room : count ≤ rows
-  pub ticks_room : rows ≤ ticks
+  pub rows_room : count ≤ length rows
+  pub times_room : length rows ≤ length times
+  pub rows_of : AreRowsOf (added (parts_of steps)) rows
+  pub history : IsHistory first steps moves times
