@@ -7,3 +7,4 @@ pub mod RoundLemmas
 pub mod RowLemmas
 pub mod SettleLemmas
 pub mod TrailLemmas
+pub mod AddingLemmas

@@ -11,6 +11,8 @@ mod settle;
 mod solving;
 mod spread;
 mod times;
+mod trail;
 
 pub use mark::Mark;
 pub use part::Part;
+pub use trail::Trail;
