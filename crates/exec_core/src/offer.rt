@@ -38,10 +38,10 @@ impl From<Memory> for Unfit {
 
 impl Offer {
     /// The number of the plan's points.
-    pub fn points(&self) -> usize
+    pub fn points(&self) -> u32
         ensures { 1 < result }
     {
-        self.dist.points
+        self.dist.points as u32
     }
 
     /// An offer of a plan of one extension for the mission's first horizon, with durations alone.
