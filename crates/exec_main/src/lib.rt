@@ -8,3 +8,6 @@ mod top;
 
 pub use status::Status;
 pub use top::ground;
+
+#[cfg(test)]
+mod tests;

@@ -6,9 +6,9 @@ ghost use Rattle.exec_main.specs.Statuses.{code_of};
 ghost use Rattle.exec_main.specs.Streams.{AppendsFront, IsRead};
 ghost use Rattle.exec_main.specs.declared.top.Stop.TheVariants.{Memory as NoMemory};
 
+use crate::Status;
 use crate::flight::fly;
 use crate::streams::{Unread, read_whole, write_whole};
-use crate::Status;
 use exec_core::{Offer, Unfit};
 use first_text::read_first;
 use hs_base::{Memory, Mission, Text};
