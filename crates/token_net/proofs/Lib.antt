@@ -1,2 +1,4 @@
 pub mod NumberLemmas
 pub mod ItemLemmas
+pub mod TableLemmas
+pub mod GrowthLemmas
