@@ -1,14 +1,16 @@
 -- The rows of a plan that takes on an extension, token by token.
-use Rattle.std.proofs.Common.{◌≡◌, ℕ, zero, suc, ◌+◌, ◌<◌, ◌≤◌, List, [], ◌∷◌, ◌++◌, length, take, get_or, Some, refl, sym, ap, ◌∙◌, subst, arith, append_assoc, append-nil, length-append, inl, inr}
+use Rattle.std.proofs.Common.{◌≡◌, ℕ, ◌+◌, ◌<◌, ◌≤◌, List, [], ◌∷◌, ◌++◌, length, take, get_or, Some, sym, ap, ◌∙◌, subst, arith, append_assoc, append-nil, length-append, inl, inr}
 use Rattle.std.proofs.lemmas.Bool.{cases_Bool}
 use Rattle.std.proofs.lemmas.List.{take_more, take_all, length-take-le}
 use Rattle.std.proofs.lemmas.Option.{slice_get-get_or}
-use Rattle.std.specs.Prelude.{slice_get, filter, nat_eq, Bool}
+use Rattle.std.specs.Prelude.{slice_get, flat_map, nat_eq}
 use Rattle.std.specs.List.{AllByRecursion}
 use Rattle.hs_base.specs.declared.mission.Kind.{Kind}
 use Rattle.hs_base.specs.declared.plan.TokenRef.{TokenRef}
+use Rattle.hs_base.specs.declared.plan.Time.{Time}
 use Rattle.hs_base.specs.declared.plan.Extension.{Extension}
 use Rattle.hs_base.specs.Points.{Point, horizon, count, points_of, tokens_of, timeline_of, ref_after, refs_after}
+use Rattle.hs_base.specs.Checked.{fixed_of}
 use Rattle.token_net.specs.Rows.{Rows, row_of, IsTable}
 use Rattle.base_laws.proofs.ListLemmas.{each_at, each_flat, join_after-push}
 use Rattle.base_laws.proofs.PointLemmas.{AreNamed, named, named_horizon, named_tokens, end_point, end_points, end_points-push, length-ends, points_parts, tokens-push, count_is}
@@ -65,11 +67,17 @@ pub row_few : (vars : ℕ) (before : List Extension) (new : List Kind) (rows : R
 row_few vars before new rows n v h =
     omega (arith, h.sizes v, h.points, timeline_few (tokens_in before new) v, length-append (tokens_of before) new, length-names_in before new, count_is before)
 
--- what holds of each token holds of each of one extension
-pub tokens_each : (P : Kind → Type 0) (es : List Extension) (i : ℕ) (e : Extension) (j : ℕ) (t : Kind) → AllByRecursion P (tokens_of es) → i < length es → e ≡ get_or es i e → j < length e.tokens → P (get_or e.tokens j t)
-tokens_each P es i e j t h below is inside =
+-- what holds of a part of all extensions holds of that of one
+pub each_part : {X : Type 0} (P : X → Type 0) (f : Extension → List X) (es : List Extension) (i : ℕ) (e : Extension) (j : ℕ) (x : X) → AllByRecursion P (flat_map f es) → i < length es → e ≡ get_or es i e → j < length (f e) → P (get_or (f e) j x)
+each_part P f es i e j x h below is inside =
     let here : slice_get es i ≡ Some e = slice_get-get_or es i e below ∙ ap Some (sym is) in
-    each_at P e.tokens j (get_or e.tokens j t) (each_flat P (λ (x : Extension). x.tokens) es i e h here) (slice_get-get_or e.tokens j t inside)
+    each_at P (f e) j (get_or (f e) j x) (each_flat P f es i e h here) (slice_get-get_or (f e) j x inside)
+
+pub tokens_each : (P : Kind → Type 0) (es : List Extension) (i : ℕ) (e : Extension) (j : ℕ) (t : Kind) → AllByRecursion P (tokens_of es) → i < length es → e ≡ get_or es i e → j < length e.tokens → P (get_or e.tokens j t)
+tokens_each P es i e j t h below is inside = each_part P (λ (x : Extension). x.tokens) es i e j t h below is inside
+
+pub fixed_each : (P : Time → Type 0) (es : List Extension) (i : ℕ) (e : Extension) (j : ℕ) (t : Time) → AllByRecursion P (fixed_of es) → i < length es → e ≡ get_or es i e → j < length e.fixed → P (get_or e.fixed j t)
+fixed_each P es i e j t h below is inside = each_part P (λ (x : Extension). x.fixed) es i e j t h below is inside
 
 -- the names of new tokens, one more
 pub refs-push : (before new : List Kind) (t : Kind) → refs_after before (new ++ t ∷ []) ≡ refs_after before new ++ ref_after (before ++ new) t ∷ []

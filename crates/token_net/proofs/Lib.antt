@@ -2,3 +2,4 @@ pub mod NumberLemmas
 pub mod ItemLemmas
 pub mod TableLemmas
 pub mod GrowthLemmas
+pub mod RowLemmas

@@ -1,17 +1,15 @@
 -- The rows of a plan, one point on.
-use Rattle.std.proofs.Common.{◌≡◌, ◌≢◌, ℕ, zero, suc, ◌+◌, ◌<◌, ◌≤◌, Bool, true, false, nat_eq, List, [], ◌∷◌, ◌++◌, length, get_or, replicate, Option, Some, None, refl, sym, ap, ◌∙◌, subst, arith, append-nil, inl, inr, length-append, get_or-set_same, get_or-set_other, length-set}
+use Rattle.std.proofs.Common.{◌≡◌, ◌≢◌, ℕ, zero, suc, ◌+◌, ◌<◌, ◌≤◌, false, nat_eq, List, [], ◌∷◌, ◌++◌, length, replicate, Option, Some, refl, sym, ap, ◌∙◌, subst, arith, inl, inr, length-append, get_or-set_same, get_or-set_other, length-set}
 use Rattle.std.proofs.lemmas.List.{length-replicate}
-use Rattle.std.proofs.lemmas.Bool.{cases_Bool, cases_lt, cases_eq, eq-eqb}
+use Rattle.std.proofs.lemmas.Bool.{cases_lt, cases_eq, eq-eqb}
 use Rattle.std.proofs.lemmas.Bool.Decides.{nat_tests}
 use Rattle.std.proofs.lemmas.Option.{slice_get_past}
-use Rattle.std.specs.Prelude.{slice_get, slice_set, option_map, unwrap_or, filter}
+use Rattle.std.specs.Prelude.{slice_get, slice_set, option_map, unwrap_or}
 use Rattle.hs_base.specs.declared.mission.Kind.{Kind}
-use Rattle.hs_base.specs.declared.plan.TokenRef.{TokenRef}
-use Rattle.hs_base.specs.declared.plan.Extension.{Extension}
-use Rattle.hs_base.specs.Points.{Point, origin, horizon, ending, place_of, points_of, tokens_of, timeline_of, ref_after}
+use Rattle.hs_base.specs.Points.{Point, origin, horizon, ending, place_of, timeline_of, ref_after}
 use Rattle.token_net.specs.declared.table.Placed.{Placed}
-use Rattle.token_net.specs.Rows.{Rows, row_of, end_in, kind_in, IsTable}
-use Rattle.base_laws.proofs.ListLemmas.{slice_get-append_left, slice_get-append_right, slice_get-middle}
+use Rattle.token_net.specs.Rows.{Rows, row_of, end_in, IsTable}
+use Rattle.base_laws.proofs.ListLemmas.{slice_get-append_left, slice_get-middle}
 use Rattle.base_laws.proofs.PointLemmas.{AreNamed, end_point, place_kept, place_new, place_other, timeline-append, length-timeline_own, timeline_other}
 
 abbrev pub end_at : List Placed → ℕ → ℕ → ℕ
@@ -107,6 +105,7 @@ module _ (vars : ℕ) (tokens : List Kind) (names : List Point) (rows : Rows) (n
     | inl same ↦ subst (λ (w : ℕ). length (row_of (push_row rows n t) w) ≡ length (timeline_of (tokens ++ t ∷ []) w)) (sym same) (ap length own ∙ omega (arith, many, length-append row (placed t n ∷ []), length-timeline_own tokens t))
     | inr apart ↦ ap length (row_other rows n t v apart) ∙ h.sizes v ∙ ap length (sym (timeline_other tokens t v (not_same v apart)))
   ]
+
   -- a place of a row that had it before
   old_end : (v i : ℕ) (r : List Placed) → r ≡ row_of rows v → i < length (timeline_of tokens v) → end_at r (n + 1) i ≡ place_of (ending v i) more
   old_end v i r is old =

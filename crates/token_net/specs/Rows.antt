@@ -1,5 +1,5 @@
 -- The tokens of a plan by timeline, as the code looks them up.
-use Rattle.std.specs.Prelude.{◌≡◌, ℕ, zero, suc, ◌-◌, Bool, false, cond, ℤ, neg_ℤ, negsuc, List, [], ◌∷◌, ◌++◌, length, map, flat_map, get_or, slice_get, option_map, unwrap_or, Option, Some, None}
+use Rattle.std.specs.Prelude.{◌≡◌, ℕ, zero, suc, ◌-◌, Bool, false, cond, ℤ, neg_ℤ, negsuc, List, [], ◌∷◌, ◌++◌, length, map, flat_map, get_or, slice_get, option_map, unwrap_or, Option}
 use Rattle.hs_base.specs.declared.net.Bound.{Bound}
 use Rattle.hs_base.specs.declared.mission.Kind.{Kind}
 use Rattle.hs_base.specs.declared.mission.Choice.{Choice}

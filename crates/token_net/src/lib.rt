@@ -2,9 +2,11 @@
 #![tactic(auto)]
 
 mod apart;
+mod bounding;
 mod items;
 mod lookups;
 mod numbers;
 mod table;
 
+pub use bounding::bounds;
 pub use numbers::{end_of, horizon_point, observed, points, start_of};

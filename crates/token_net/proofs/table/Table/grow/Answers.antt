@@ -1,7 +1,6 @@
-use Rattle.std.proofs.Common.{◌≡◌, ◌<◌, ◌≤◌, length, take, get_or, Some, refl, sym, ap, ◌∙◌, subst, arith}
+use Rattle.std.proofs.Common.{◌≡◌, ◌<◌, length, take, get_or, Some, refl, sym, ap, ◌∙◌, arith}
 use Rattle.std.proofs.lemmas.List.{take_all}
 use Rattle.std.proofs.lemmas.Option.{slice_get-get_or}
-use Rattle.std.specs.Prelude.{slice_get}
 use Rattle.hs_base.specs.declared.mission.Kind.{Kind}
 use Rattle.hs_base.specs.declared.plan.Extension.{Extension}
 use Rattle.hs_base.specs.Points.{tokens_of, refs_after}
@@ -37,7 +36,7 @@ push-requires-clause-few c =
       growth_count (length c.args.self.now.rows.items) (take c.args.k c.args.extensions.now) ts j c.loop-kind.self.rows.items c.loop-kind.self.points c.loop-kind.auto.kind-index-end c.loop-kind.invariant.table,
       room c.args.extensions.now c.args.k c.index-extensions-k.result c.requires.below c.index-extensions-k.is,
       ap length tokens,
-      c.requires.small
+      c.requires.small,
     )
 
 pub push-requires-clause-small : goal.push-requires-clause-small
@@ -49,7 +48,7 @@ push-requires-clause-small c =
       room c.args.extensions.now c.args.k c.index-extensions-k.result c.requires.below c.index-extensions-k.is,
       ap length tokens,
       c.loop-kind-test.true,
-      c.requires.small
+      c.requires.small,
     )
 
 pub loop-kind-preserved : goal.loop-kind-preserved
