@@ -274,3 +274,7 @@ pub token_of_ref : (before after : List Kind) (k : Kind) → slice_get (timeline
 token_of_ref before after k =
     ap (λ l. slice_get l (length (timeline_of before k.sv.0))) (timeline-append before (k ∷ after) k.sv.0)
     ∙ (rw (eq-eqb k.sv.0 k.sv.0 refl) (slice_get-middle (timeline_of before k.sv.0) k (timeline_of after k.sv.0)))
+
+-- the timeline of a token's own variable, with that token
+pub timeline_own : (ts : List Kind) (t : Kind) → timeline_of (ts ++ t ∷ []) t.sv.0 ≡ timeline_of ts t.sv.0 ++ t ∷ []
+timeline_own ts t = timeline-append ts (t ∷ []) t.sv.0 ∙ rw (eq-eqb t.sv.0 t.sv.0 refl) refl

@@ -2,3 +2,4 @@ pub mod ScheduleLemmas
 pub mod PlanLemmas
 pub mod StateLemmas
 pub mod RunLemmas
+pub mod ChainLemmas
