@@ -3,3 +3,4 @@ pub mod PlanLemmas
 pub mod StateLemmas
 pub mod RunLemmas
 pub mod ChainLemmas
+pub mod LengthLemmas
