@@ -3,3 +3,4 @@ pub mod ItemLemmas
 pub mod TableLemmas
 pub mod GrowthLemmas
 pub mod RowLemmas
+pub mod SampleLemmas
