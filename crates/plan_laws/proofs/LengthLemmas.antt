@@ -108,7 +108,7 @@ lengths_in m s es h = snoc_induction (LengthsIn m s) (λ b e. Meets (new_bounds 
 pub record PointsIn (s : Schedule) (es : List Extension) : Type 0 where
   pub each : (x : ℕ) → 0 < x → x < count es → InRange whole (s x -ℤ s 0)
 
-number_at : (a n j : ℕ) → j < n → slice_get (numbers_from a n) j ≡ Some (a + j)
+pub number_at : (a n j : ℕ) → j < n → slice_get (numbers_from a n) j ≡ Some (a + j)
 number_at a zero j below = absurd (omega arith)
 number_at a (suc n) zero below = let e : a ≡ a + 0 = omega arith in ap Some e
 number_at a (suc n) (suc j) below = let e : a + 1 + j ≡ a + suc j = omega arith in number_at (a + 1) n j (omega arith) ∙ ap Some e

@@ -4,3 +4,4 @@ pub mod StateLemmas
 pub mod RunLemmas
 pub mod ChainLemmas
 pub mod LengthLemmas
+pub mod SpanLemmas

@@ -15,4 +15,7 @@ pub use schedules::{
     implied_distances_are_tight, lists_and_functions_are_one_claim, schedules_restrict,
     tight_weights_keep_the_triangle,
 };
-pub use timelines::{a_schedule_keeps_lengths_and_times, a_schedule_makes_linked_timelines};
+pub use timelines::{
+    a_schedule_keeps_lengths_and_times, a_schedule_makes_linked_timelines,
+    a_schedule_spans_the_horizons,
+};
