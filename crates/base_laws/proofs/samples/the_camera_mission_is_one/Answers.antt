@@ -1,5 +1,5 @@
 use Rattle.std.proofs.Common.{rules, refl}
-use Rattle.plan_laws.proofs.samples.the_camera_mission_is_one.Goals as goal
+use Rattle.base_laws.proofs.samples.the_camera_mission_is_one.Goals as goal
 
 pub returns : goal.returns
 returns c = record {
