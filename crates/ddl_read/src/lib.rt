@@ -4,10 +4,12 @@
 mod bytes;
 mod cut;
 mod large;
+mod name;
 mod next;
 mod number;
 mod piece;
 mod pieces;
+mod unread;
 
 pub use piece::{Piece, PieceKind};
 pub use pieces::Pieces;
