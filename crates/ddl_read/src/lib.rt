@@ -9,6 +9,7 @@ mod next;
 mod number;
 mod piece;
 mod pieces;
+mod reader;
 mod unread;
 
 pub use piece::{Piece, PieceKind};

@@ -88,6 +88,7 @@ fn is_reserved(word: &[u8]) -> bool
 }
 
 /// Whether a word is a name.
+#[tactic(auto, unfolding(hs_base::specs::Names::is_name))]
 pub fn is_name(word: &[u8]) -> bool
     ensures { result ≡ is_name_spec word.now }
 {

@@ -12,6 +12,7 @@ use Rattle.hs_base.specs.declared.ast.AstSaid.{AstSaid}
 use Rattle.hs_base.specs.declared.ast.AstValue.{AstValue}
 use Rattle.hs_base.specs.declared.ast.AstHorizon.{AstHorizon}
 use Rattle.hs_base.specs.declared.ast.Ast.{Ast}
+use Rattle.hs_base.specs.Names.{is_name}
 use Rattle.hs_base.specs.Ranges.{range, whole}
 use Rattle.hs_base.specs.Pieces.{Piece, word, number as digits, symbol}
 use Rattle.hs_base.specs.Languages.{Language, One, Yields, Then, ◌∣◌, Maybe, Many, Several, Keyword, Sign, Number, After, Behind, Apart, number_says}
@@ -34,7 +35,7 @@ unfolding version_at
 version_reads = one_reads version_says (record { pieces = digits (49 ∷ []) ∷ []; value = 1; sentence = (digits (49 ∷ []), refl, refl) })
 
 pub name_reads : (v : ℕ) → Reads (NameText v) (name_at v) []
-unfolding name_at
+unfolding name_at is_name
 name_reads v = one_reads (name_says v) (record { pieces = word (97 ∷ []) ∷ []; value = 97 ∷ []; sentence = (word (97 ∷ []), refl, refl) })
 
 number_is_no_word : (w : List ℕ) (p : Piece) (x : ℤ) → number_says p ≡ Some x → Avoids (word w ∷ []) (Some p)
