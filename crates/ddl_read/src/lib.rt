@@ -9,6 +9,7 @@ mod next;
 mod number;
 mod piece;
 mod pieces;
+mod range;
 mod reader;
 mod unread;
 
