@@ -16,10 +16,10 @@ use Rattle.hs_base.specs.Names.{is_name}
 use Rattle.hs_base.specs.Ranges.{range, whole}
 use Rattle.hs_base.specs.Pieces.{Piece, word, number as digits, symbol}
 use Rattle.hs_base.specs.Languages.{Language, One, Yields, Then, ◌∣◌, Maybe, Many, Several, Keyword, Sign, Number, After, Behind, Apart, number_says}
-use Rattle.hs_base.specs.MissionText.{version_says, VersionText, name_says, NameText, LimitText, RangeText, UseText, KindText, NextText, DoText, UntilText, PartText, PartsText, ScriptText, SaidText, AnswersText, PlainText, DeviceText, ValueText, SomeUseText, BeginText, VarText, OneRange, TwoRanges, RelationText, ChoiceText, FurtherChoices, NeedText, GoalText, HorizonText, ClausesText, MissionText, until_done}
+use Rattle.hs_base.specs.MissionText.{version_says, VersionText, name_says, NameText, LimitText, RangeText, UseText, KindText, NextText, DoText, UntilText, PartText, PartsText, ScriptText, SaidText, AnswersText, PlainText, DeviceText, ValueText, SomeUseText, BeginText, VarText, OneRange, TwoRanges, RelationText, ChoiceText, FurtherChoices, ChoicesText, NeedText, GoalText, HorizonText, ClausesText, MissionText, until_done}
 use Rattle.text_laws.specs.Parsers.{Parser, next, ◌>>=◌, yields, one, is_word, is_sign, choose, many, keyword, sign, number, after, behind, maybe_after, several, apart}
 use Rattle.text_laws.specs.Reads.{Avoids, Reads, Leads, BeginsWith}
-use Rattle.text_laws.specs.MissionReading.{version_at, name_at, limit_at, range_at, use_at, kind_at, uses_at, next_at, do_at, until_at, part_at, parts_at, script_at, said_at, answers_at, plain_at, device_at, value_at, some_use_at, begin_at, var_at, one_range, two_ranges, relation_at, choice_at, further_at, need_at, goal_at, horizon_at, clauses_at, mission_at}
+use Rattle.text_laws.specs.MissionReading.{version_at, name_at, limit_at, range_at, use_at, kind_at, uses_at, next_at, do_at, until_at, part_at, parts_at, script_at, said_at, answers_at, plain_at, device_at, value_at, some_use_at, begin_at, var_at, one_range, two_ranges, relation_at, choice_at, further_at, choices_at, need_at, goal_at, horizon_at, clauses_at, mission_at}
 use Rattle.text_laws.proofs.ParserLemmas.{one_reads, yields_reads}
 use Rattle.text_laws.proofs.ThenLemmas.{then_reads, then_any}
 use Rattle.text_laws.proofs.ChoiceLemmas.{choose_reads}
@@ -336,13 +336,18 @@ further_reads v =
     | false ↦ more_choices_reads v
     ]
 
+pub choices_reads : (v : ℕ) → Reads (ChoicesText v) (choices_at v) (kw "or" ∷ [])
+unfolding choices_at
+choices_reads v =
+    then_any (ChoiceText v) _ (choice_at v) _ (kw "or" ∷ []) (choice_reads v) (λ first.
+    then_reads (FurtherChoices v) _ (further_at v) _ (kw "or" ∷ []) (kw "or" ∷ []) (further_reads v) (λ others. nothing _ _) (λ others. leads_yields _ _ _ (covers_test _ _ refl)))
+
 pub need_reads : (v : ℕ) → Reads (NeedText v) (need_at v) (kw "or" ∷ [])
 unfolding need_at
 need_reads v =
     then_any (Keyword "need") _ (keyword "need") _ (kw "or" ∷ []) (keyword_reads "need") (λ _.
     then_any (KindText v) _ (kind_at v) _ (kw "or" ∷ []) (kind_reads v) (λ of.
-    then_any (ChoiceText v) _ (choice_at v) _ (kw "or" ∷ []) (choice_reads v) (λ first.
-    then_reads (FurtherChoices v) _ (further_at v) _ (kw "or" ∷ []) (kw "or" ∷ []) (further_reads v) (λ others. nothing _ _) (λ others. leads_yields _ _ _ (covers_test _ _ refl)))))
+    then_reads (ChoicesText v) _ (choices_at v) _ (kw "or" ∷ []) (kw "or" ∷ []) (choices_reads v) (λ either. nothing _ _) (λ either. leads_yields _ _ _ (covers_test _ _ refl))))
 
 -- a goal's range leads to no stop of another one
 stop_leads : Leads (Maybe (After "stop" RangeText) whole) goal_stops (kw "start" ∷ [])
