@@ -13,9 +13,11 @@ mod piece;
 mod pieces;
 mod range;
 mod reader;
+mod reading;
 mod script;
 mod unread;
 mod value;
 
 pub use piece::{Piece, PieceKind};
 pub use pieces::Pieces;
+pub use reading::{read, read_front};
