@@ -1,0 +1,8 @@
+//! The edges between rigid groups that no edge dominates.
+#![tactic(auto)]
+
+mod candidates;
+mod filter;
+mod side;
+
+pub use filter::keep;
