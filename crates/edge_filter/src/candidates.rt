@@ -32,7 +32,7 @@ fn key_of(dist: &Dist, side: Side, leader: u32, other: u32) -> i64
 }
 
 /// Whether `other` is another leader with an edge of this side.
-fn is_on_side(dist: &Dist, side: Side, leader: u32, other: u32) -> bool
+pub(crate) fn is_on_side(dist: &Dist, side: Side, leader: u32, other: u32) -> bool
     requires leader { leader < dist.now.count }
     requires other { other < dist.now.count }
     ensures { result ≡ is_on side (weight dist.now) leader other }
