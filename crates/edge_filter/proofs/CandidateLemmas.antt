@@ -1,23 +1,23 @@
 -- Candidates for kept edges: only dominated edges are dropped, and candidates alone decide.
-use Rattle.std.proofs.Common.{◌≡◌, ◌≢◌, ◌⊎◌, ℕ, ◌+◌, ◌<◌, ◌≤◌, Bool, true, false, List, [], ◌∷◌, ◌++◌, length, get_or, below_more, map, All, Contains, ℤ, pos, ◌+ℤ◌, ◌≤ℤ◌, refl, sym, ap, ◌∙◌, subst, arith, inl, inr}
+use Rattle.std.proofs.Common.{◌≡◌, ◌≢◌, ℕ, Bool, true, false, List, [], ◌∷◌, ◌++◌, get_or, map, All, Contains, pos, ◌+ℤ◌, refl, sym, ap, ◌∙◌, subst, arith, inl, inr}
 use Rattle.std.proofs.lemmas.Int.{ints}
-use Rattle.std.proofs.lemmas.Bool.{cases_Bool, both_ways, and_parts, and_from, and_right, or_left, or_right, eqb-false, not-true, not_from_false, ne_eqb, cases_eq, eq-eqb}
+use Rattle.std.proofs.lemmas.Bool.{cases_Bool, both_ways, and_parts, and_from, and_right, or_left, eqb-false, not-true, not_from_false, ne_eqb, cases_eq}
 use Rattle.std.proofs.lemmas.List.{map_push}
-use Rattle.std.proofs.lemmas.List.Elements.{All-push, All-contains, Contains-get_or, Contains-append_left, Contains-push}
+use Rattle.std.proofs.lemmas.List.Elements.{All-contains, Contains-append_left, Contains-push}
 use Rattle.std.proofs.lemmas.List.Folds.{list_any-append}
-use Rattle.std.proofs.lemmas.List.Sorted.{All-permutation, Contains-permutation, IsPermutation-sym}
-use Rattle.std.specs.Prelude.{filter, int_lt, int_le, not, ◌&&◌, ◌||◌, nat_eq}
+use Rattle.std.proofs.lemmas.List.Sorted.{Contains-permutation, IsPermutation-sym}
+use Rattle.std.specs.Prelude.{filter, int_lt, int_le, not, ◌&&◌, nat_eq}
 use Rattle.std.specs.List.{list_any}
 use Rattle.std.specs.List.Sorted.{IsPermutation}
 use Rattle.hs_base.specs.Reduced.{Table, int_eq, is_kept}
-use Rattle.net_laws.proofs.BetweenLemmas.{Has, Web, Dominates, IsKept, some_passes, none_passes, kept_or, kept_from, kept_to, int_eq-true, eq_int_eq, int_le-true, int_lt-true, le_int_le, lt_int_lt}
+use Rattle.net_laws.proofs.BetweenLemmas.{Has, Web, some_passes, none_passes, kept_or, kept_from, kept_to, int_eq-true, eq_int_eq, int_le-true, int_lt-true, le_int_le, lt_int_lt}
 use Rattle.net_laws.proofs.KeptLemmas.{dominated_by_kept}
 use Rattle.net_laws.proofs.ListLemmas.{has_from, contains_from, has_filter, filter_has, has_map}
 use Rattle.edge_filter.specs.declared.side.Side.{Side}
 use Rattle.edge_filter.specs.declared.side.Side.TheVariants.{Incoming, Outgoing}
 use Rattle.edge_filter.specs.declared.candidates.Candidate.{Candidate}
 use Rattle.edge_filter.specs.Sides.{along, has_sign, is_on, is_kept_at, is_kept_on}
-use Rattle.edge_filter.specs.Candidates.{IsOf, IsSettled, AreNarrowed, IsCandidate, AreCandidates, passes_by, some_passes_by}
+use Rattle.edge_filter.specs.Candidates.{IsSettled, AreNarrowed, IsCandidate, AreCandidates, passes_by, some_passes_by}
 
 -- ---- One more point
 
@@ -69,8 +69,8 @@ pub AreCandidates-narrowed : (side : Side) (d : Table) (ls points : List ℕ) (a
 AreCandidates-narrowed side d ls points a bs perm h =
     let each : All (IsCandidate side d ls a) bs = λ k e l.
     (let o = h.each k e l in
-        let back = has_filter (is_on side d a) ls (get_or bs k e).point (has_from (filter (is_on side d a) ls) (get_or bs k e).point (Contains-permutation points (filter (is_on side d a) ls) (get_or bs k e).point (IsPermutation-sym (filter (is_on side d a) ls) points perm) o.given)) in
-        record { given = contains_from ls (get_or bs k e).point back.0; on = back.1; weight = o.weight }) in
+    let back = has_filter (is_on side d a) ls (get_or bs k e).point (has_from (filter (is_on side d a) ls) (get_or bs k e).point (Contains-permutation points (filter (is_on side d a) ls) (get_or bs k e).point (IsPermutation-sym (filter (is_on side d a) ls) points perm) o.given)) in
+    record { given = contains_from ls (get_or bs k e).point back.0; on = back.1; weight = o.weight }) in
     record {
       each = each;
       all = λ x i on kept.

@@ -1,15 +1,13 @@
 -- Rows of marks tell the kept edges.
-use Rattle.std.proofs.Common.{◌≡◌, ℕ, ◌+◌, ◌<◌, Bool, true, false, cond, Vec, Global, List, [], ◌∷◌, ◌++◌, length, get_or, take, map, All, Contains, ℤ, pos, refl, sym, ap, ◌∙◌, subst, arith, inl, inr}
+use Rattle.std.proofs.Common.{◌≡◌, ℕ, ◌+◌, ◌<◌, Bool, true, false, cond, Vec, Global, List, [], ◌∷◌, ◌++◌, length, get_or, take, map, All, Contains, ℤ, pos, refl, sym, ap, ◌∙◌, subst, inl, inr}
 use Rattle.std.proofs.lemmas.Bool.{cases_Bool}
 use Rattle.std.proofs.lemmas.List.{get_or-map, length-map}
 use Rattle.std.proofs.lemmas.List.Elements.{Contains-get_or}
 use Rattle.std.specs.Prelude.{filter, int_le, int_lt, ◌&&◌, ◌||◌}
-use Rattle.hs_base.specs.declared.net.Bound.{Bound}
-use Rattle.hs_base.specs.declared.net.Group.{Group}
 use Rattle.hs_base.specs.Schedule.{bound}
-use Rattle.hs_base.specs.Reduced.{Table, IsTableOf, leaders, group_of, is_kept, edges_from}
+use Rattle.hs_base.specs.Reduced.{Table, leaders, group_of, is_kept}
 use Rattle.stn_distance.specs.Distances.{Distances, weight}
-use Rattle.net_laws.proofs.BetweenLemmas.{Has, Web, int_le-false, lt_int_lt}
+use Rattle.net_laws.proofs.BetweenLemmas.{Web, int_le-false, lt_int_lt}
 use Rattle.net_laws.proofs.ListLemmas.{has_from}
 use Rattle.net_laws.proofs.GroupLemmas.{has_leader, leaders_web}
 use Rattle.net_laws.proofs.ExactLemmas.{table_of}

@@ -1,5 +1,5 @@
 -- Leaders whose edges on one side of a leader may be kept.
-use Rattle.std.specs.Prelude.{◌≡◌, ◌⊎◌, ℕ, ◌<◌, neg_ℤ, ◌≤ℤ◌, Bool, true, not, ◌&&◌, nat_eq, ℤ, ◌+ℤ◌, List, map, filter, Contains, All}
+use Rattle.std.specs.Prelude.{◌≡◌, ◌⊎◌, ℕ, ◌<◌, neg_ℤ, ◌≤ℤ◌, Bool, true, not, ◌&&◌, nat_eq, ℤ, ◌+ℤ◌, List, map, Contains, All}
 use Rattle.std.specs.List.{list_any}
 use Rattle.hs_base.specs.declared.limits.TheConstants.{LAST}
 use Rattle.hs_base.specs.Reduced.{Table, int_eq}

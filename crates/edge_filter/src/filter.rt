@@ -62,7 +62,12 @@ fn kept_on(
 }
 
 /// Which edges between leaders are on this side and kept, a row for each leader.
-fn rows_on(alloc: Global, dist: &Dist, leaders: &[u32], side: Side) -> Result<Vec<Vec<bool>>, Memory>
+fn rows_on(
+    alloc: Global,
+    dist: &Dist,
+    leaders: &[u32],
+    side: Side,
+) -> Result<Vec<Vec<bool>>, Memory>
     requires { AreLeaders dist.now leaders.now }
     ensures { IfOk result (λ v. rows_in v.items ≡ marks_on side (weight dist.now) leaders.now leaders.now) }
 {

@@ -4,5 +4,7 @@
 mod candidates;
 mod filter;
 mod side;
+#[cfg(test)]
+mod tests;
 
 pub use filter::keep;

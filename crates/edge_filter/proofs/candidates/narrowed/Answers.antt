@@ -1,6 +1,5 @@
-use Rattle.std.proofs.Common.{◌≡◌, ◌+◌, ◌<◌, ◌++◌, ◌∷◌, [], ℕ, ℤ, List, Bool, true, false, below_more, get_or, sym, ap, ◌∙◌, subst, arith, inr, refl, to_z, of_z, w64}
+use Rattle.std.proofs.Common.{◌≡◌, ◌++◌, ◌∷◌, [], true, below_more, get_or, sym, ◌∙◌, arith, inr, refl, to_z, of_z, w64}
 use Rattle.std.proofs.lemmas.Int.{ints}
-use Rattle.std.proofs.lemmas.Bool.{not-false}
 use Rattle.std.proofs.lemmas.List.Elements.{All-push, All-from_get_or, Contains-get_or}
 use Rattle.stn_distance.specs.Distances.{weight}
 use Rattle.edge_filter.specs.declared.candidates.Candidate.{Candidate}

@@ -1,8 +1,5 @@
-use Rattle.std.proofs.Common.{ℕ, ℤ, List, subst, sym, ◌∙◌, ap}
-use Rattle.std.specs.Prelude.{filter}
-use Rattle.std.specs.List.Sorted.{IsPermutation}
+use Rattle.std.proofs.Common.{ℕ, ℤ}
 use Rattle.std.proofs.lemmas.List.Sorted.{IsPermutation-map}
-use Rattle.edge_filter.specs.Candidates.{points_of}
 use Rattle.edge_filter.proofs.candidates.ordered.Goals as goal
 
 pub returns : goal.returns

@@ -1,10 +1,9 @@
-use Rattle.std.proofs.Common.{◌≡◌, ◌∙◌, ℕ, List, take, sym, ap, subst, arith, length}
+use Rattle.std.proofs.Common.{◌≡◌, ◌∙◌, ℕ, List, take, ap, arith}
 use Rattle.std.specs.Prelude.{flat_map}
 use Rattle.std.proofs.lemmas.List.{take_all}
-use Rattle.hs_base.specs.declared.net.Group.{Group}
 use Rattle.hs_base.specs.Reduced.{leaders, edges_from}
-use Rattle.stn_distance.specs.Distances.{Distances, weight}
-use Rattle.edge_filter.specs.Marks.{AreLeaders, leaders_in}
+use Rattle.stn_distance.specs.Distances.{weight}
+use Rattle.edge_filter.specs.Marks.{leaders_in}
 use Rattle.edge_filter.proofs.MarkLemmas.{leaders_in-groups}
 use Rattle.edge_filter.proofs.filter.keep.Goals as goal
 

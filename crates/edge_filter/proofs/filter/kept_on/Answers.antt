@@ -1,7 +1,6 @@
 use Rattle.std.proofs.Common.{ℕ, Bool, arith, take, ap, ◌∙◌, ◌≡◌}
 use Rattle.std.specs.Prelude.{map, ◌&&◌, not}
 use Rattle.std.proofs.lemmas.List.{take_all}
-use Rattle.std.proofs.lemmas.List.Elements.{Contains-get_or}
 use Rattle.stn_distance.specs.Distances.{weight}
 use Rattle.net_laws.proofs.ListLemmas.{has_from}
 use Rattle.rigid_contract.proofs.AmongLemmas.{map_same}
