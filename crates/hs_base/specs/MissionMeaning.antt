@@ -3,6 +3,7 @@ use Rattle.std.specs.Prelude.{◌≡◌, ℕ, ◌≤◌, cond, List, [], ◌∷�
 use Rattle.std.specs.List.{AllZip, list_any}
 use Rattle.std.specs.Str.{bytes_eq}
 use Rattle.hs_base.specs.Types.{Choice, Goal, Horizon, Kind, Mission, Need, Said, Step, Do, Until, ValId, Value, Var, Ast, AstChoice, AstDo, AstGoal, AstHorizon, AstKind, AstNeed, AstSaid, AstStep, AstUntil, AstValue, AstVar, Use}
+use Rattle.hs_base.specs.Missions.{IsMission}
 
 -- a name's number is the first place where it stands
 pub record IsNumberOf (names : List (List ℕ)) (name : List ℕ) (i : ℕ) : Type 0 where
@@ -92,3 +93,8 @@ pub record Numbers (a : Ast) (m : Mission) : Type 0 where
   pub vars : AllZip (VarMeans m.words) a.vars m.vars
   pub needs : AllZip (NeedMeans a.vars) a.needs m.needs
   pub horizons : AllZip (HorizonMeans a.vars) a.horizons m.horizons
+
+-- what a written mission means
+pub record Means (a : Ast) (m : Mission) : Type 0 where
+  pub numbers : Numbers a m
+  pub mission : IsMission m

@@ -1,7 +1,8 @@
 -- The mission text, one definition a nonterminal; v is the version, the number behind `hsts`.
-use Rattle.std.specs.Prelude.{ℕ, cond, ◌||◌, nat_eq, pos, ℤ, List, [], ◌∷◌, ◌++◌, true, false, Option, Some, None, codes, flat_map}
+use Rattle.std.specs.Prelude.{ℕ, cond, ◌||◌, nat_eq, ℤ, List, [], ◌∷◌, ◌++◌, true, false, Option, Some, None, codes, flat_map}
 use Rattle.hs_base.specs.Types.{LAST, Range, Relation, Before, After as AfterEnd, MeetsStart, MetBy, Starts, Ends, Equals, Encloses, ContainedBy, Ast, AstChoice, AstDo, AstGoal, AstHorizon, AstKind, AstNeed, AstSaid, AstStep, AstUntil, AstValue, AstVar, Use}
 use Rattle.hs_base.specs.Names.{is_name}
+use Rattle.hs_base.specs.Ranges.{range, whole}
 use Rattle.hs_base.specs.Pieces.{Piece, word, number, number_of}
 use Rattle.hs_base.specs.Languages.{Language, One, Yields, ◌>>=◌, ◌∣◌, Maybe, Many, Several, Keyword, Sign, Number, After, Apart}
 
@@ -33,7 +34,7 @@ RangeText = do
   _ ← Sign ","
   high ← LimitText
   _ ← Sign "]"
-  Yields (record { low = low; high = high })
+  Yields (range low high)
 
 -- use := name
 abbrev pub UseText : ℕ → Language Use
@@ -142,8 +143,8 @@ VarText v = do
 --           | "equals" | "contains" range range | "contained_by" range range
 abbrev pub OneRange : (Range → Relation) → Language Relation
 OneRange related = do
-  range ← RangeText
-  Yields (related range)
+  within ← RangeText
+  Yields (related within)
 
 abbrev pub TwoRanges : (Range → Range → Relation) → Language Relation
 TwoRanges related = do
@@ -178,9 +179,6 @@ NeedText v = do
   Yields (record { of = of; either = first ∷ others })
 
 -- goal := "goal" kind [ "start" range ] [ "stop" range ]; a missing range is `[0,inf]`
-abbrev pub whole : Range
-whole = record { low = pos 0; high = LAST }
-
 abbrev pub GoalText : ℕ → Language AstGoal
 GoalText v = do
   _ ← Keyword "goal"

@@ -1,8 +1,8 @@
 -- The lines of refusals and faults.
 use Rattle.std.specs.Prelude.{ℕ, List, [], ◌++◌, flat_map, codes}
 use Rattle.std.specs.Fmt.{decimal}
-use Rattle.hs_base.specs.Types.{Bound, Extension, Mission, TokenRef, Refusal, NotUtf8, Char, Expected, Number, Trailing, Twice, Unknown, BadRange, Limit, NoBegin, Horizons, SameVar, SameBy, NoMemory}
-use Rattle.hs_base.specs.Written.{bound_text, token_text}
+use Rattle.hs_base.specs.Types.{Extension, Mission, Fault, Base, OverLimit, Order, Fixed, WrongSupport, Unsupported, NoGoal, Cycle, NoMemoryLeft, Refusal, NotUtf8, Char, Expected, Number, Trailing, Twice, Unknown, BadRange, Limit, NoBegin, Horizons, SameVar, SameBy, NoMemory}
+use Rattle.hs_base.specs.Written.{variable_name, bound_text}
 
 -- the line of a refusal; want of memory has none
 abbrev pub refusal_line : Refusal → List ℕ
@@ -21,34 +21,23 @@ refusal_line (SameVar item) = codes "refused 12 need " ++ decimal item ++ codes 
 refusal_line (SameBy item) = codes "refused 13 either " ++ decimal item ++ codes "\n"
 refusal_line NoMemory = []
 
--- the beginning of a fault's line: the extension of that place in the text, counted from 1
-abbrev pub fault_text : ℕ → List ℕ
-fault_text k = codes "extension " ++ decimal k ++ codes " fault "
+-- a fault of an extension, where es is the plan with it; want of memory has no line
+abbrev pub fault_lines : Mission → List Extension → Fault → List ℕ
+fault_lines m es (Base given current) = codes "1 base " ++ decimal given ++ codes " " ++ decimal current ++ codes "\n"
+fault_lines m es (Order sv place) = codes "2 order " ++ variable_name m sv.0 ++ codes " " ++ decimal place ++ codes "\n"
+fault_lines m es (Unsupported sv place need) =
+    codes "3 unsupported " ++ variable_name m sv.0 ++ codes " " ++ decimal place ++ codes " " ++ decimal need ++ codes "\n"
+fault_lines m es (WrongSupport number) = codes "4 support " ++ decimal number ++ codes "\n"
+fault_lines m es (NoGoal number) = codes "5 goal " ++ decimal number ++ codes "\n"
+fault_lines m es (Fixed number) = codes "6 fixed " ++ decimal number ++ codes "\n"
+fault_lines m es (Cycle bounds) = codes "7 cycle\n" ++ flat_map (λ b. bound_text m es b ++ codes "\n") bounds
+fault_lines m es (OverLimit points tokens) = codes "8 limit " ++ decimal points ++ codes " " ++ decimal tokens ++ codes "\n"
+fault_lines m es NoMemoryLeft = []
 
--- an extension for another plan, or behind the last horizon
-abbrev pub base_line : ℕ → ℕ → List ℕ
-base_line given current = codes "1 base " ++ decimal given ++ codes " " ++ decimal current ++ codes "\n"
+-- the fault of the extension of that place in the text, counted from 1
+abbrev pub fault_text : Mission → List Extension → ℕ → Fault → List ℕ
+fault_text m es k fault = codes "extension " ++ decimal k ++ codes " fault " ++ fault_lines m es fault
 
--- a token that may not stand where it stands
-abbrev pub order_line : Mission → TokenRef → List ℕ
-order_line m t = codes "2 order " ++ token_text m t ++ codes "\n"
-
--- a need that no token serves
-abbrev pub unsupported_line : Mission → TokenRef → ℕ → List ℕ
-unsupported_line m t need = codes "3 unsupported " ++ token_text m t ++ codes " " ++ decimal need ++ codes "\n"
-
-abbrev pub support_fault_line : ℕ → List ℕ
-support_fault_line number = codes "4 support " ++ decimal number ++ codes "\n"
-
-abbrev pub goal_fault_line : ℕ → List ℕ
-goal_fault_line number = codes "5 goal " ++ decimal number ++ codes "\n"
-
-abbrev pub fixed_fault_line : ℕ → List ℕ
-fixed_fault_line number = codes "6 fixed " ++ decimal number ++ codes "\n"
-
--- a negative cycle of bounds of the plan es
-abbrev pub cycle_lines : Mission → List Extension → List Bound → List ℕ
-cycle_lines m es cycle = codes "7 cycle\n" ++ flat_map (λ b. bound_text m es b ++ codes "\n") cycle
-
-abbrev pub limit_fault_line : ℕ → ℕ → List ℕ
-limit_fault_line points tokens = codes "8 limit " ++ decimal points ++ codes " " ++ decimal tokens ++ codes "\n"
+-- a plan of k extensions where one is asked for
+abbrev pub not_one_text : ℕ → List ℕ
+not_one_text k = codes "extension " ++ decimal k ++ codes " fault 1 base " ++ decimal k ++ codes " 0\n"
