@@ -1,2 +1,4 @@
 pub mod KeptLemmas
 pub mod FireLemmas
+pub mod PlaceLemmas
+pub mod TimesLemmas

@@ -4,6 +4,7 @@
 
 mod dispatch;
 mod places;
+mod times;
 mod waits;
 
 pub use dispatch::Dispatch;
