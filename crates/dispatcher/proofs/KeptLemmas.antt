@@ -16,6 +16,7 @@ use Rattle.hs_base.specs.Fits.{Times}
 use Rattle.hs_base.specs.Dispatch.{stands, group_time, lookup_time, leader_times}
 use Rattle.hs_base.specs.Windows.{IsHigh, AreHigh, AreLater}
 use Rattle.net_laws.proofs.LeaderLemmas.{cases_Option}
+use Rattle.net_laws.proofs.ListLemmas.{contains_from}
 use Rattle.net_laws.proofs.NetworkLemmas.{leaders_differ, offset_within, edge_within, stands_once}
 use Rattle.net_laws.proofs.StepLemmas.{ticked as after_tick}
 use Rattle.net_laws.proofs.WindowLemmas.{windows_free}
@@ -85,6 +86,14 @@ module _ (c : ℕ) (net : Net) (is : IsReducedOf c (spread net) net) where
           group = ap (λ z. get_or net.groups z g) same ∙ there;
           offset = once.1;
         }
+
+    -- a group's number is that of its leader's place
+    pub leader_place : (i : ℕ) (d : Group) → i < length net.groups → (place_at places (get_or net.groups i d).leader.0).group ≡ i
+    leader_place i d ii =
+        let g : Group = get_or net.groups i d in
+        let self : Member = record { point = g.leader; offset = pos 0 } in
+        let k = place_is g self (Contains-get_or net.groups i d ii) (contains_from (stands g) self (inl refl)) in
+        number_is (place_at places g.leader.0).group i g d k.within ii (ap (λ (z : Group). z.leader.0) k.group)
 
 -- the windows are set by the executed points
 module _ (net : Net) (times : List (Option ℤ)) (at : Times) (w : Windows) (of : AreWindowsOf net w) (by : w.times.items ≡ map (group_time at) net.groups) where

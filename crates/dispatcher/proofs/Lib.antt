@@ -2,3 +2,4 @@ pub mod KeptLemmas
 pub mod FireLemmas
 pub mod PlaceLemmas
 pub mod TimesLemmas
+pub mod ToldLemmas

@@ -3,6 +3,7 @@
 #![tactic(auto)]
 
 mod dispatch;
+mod groups;
 mod places;
 mod times;
 mod waits;

@@ -12,8 +12,8 @@ use Rattle.dispatcher.specs.declared.dispatch.Dispatch.TheInside.{Inside}
 use Rattle.dispatcher.specs.declared.places.Place.{Place}
 use Rattle.dispatcher.specs.State.{State, IsOpen, MayFire}
 use Rattle.dispatcher.specs.Places.{ArePlaces, place_at, no_place, IsNearLeader}
-use Rattle.dispatcher.specs.Index.{waited}
-use Rattle.dispatcher.specs.Kept.{state_of, IsKept, numbers_of}
+use Rattle.dispatcher.specs.Index.{numbers_of, waited}
+use Rattle.dispatcher.specs.Kept.{state_of, IsKept}
 use Rattle.dispatcher.proofs.KeptLemmas.{none_from, some_from}
 use Rattle.dispatcher.proofs.FireLemmas.{fired_lawful, kept_set_by, kept_known, kept_waits, new_times, new_known, near_members, new_waits, length-waited}
 use Rattle.dispatcher.proofs.dispatch.Dispatch.set.Goals.{then-is_none, else-is_none}
