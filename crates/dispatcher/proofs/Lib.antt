@@ -3,3 +3,4 @@ pub mod FireLemmas
 pub mod PlaceLemmas
 pub mod TimesLemmas
 pub mod ToldLemmas
+pub mod BeginLemmas
