@@ -57,8 +57,10 @@ returns-in-Err-settled-clause-err c =
     let a = IsAdding-pushed t.first t.count t.steps.items t.rows.items t.times.moves.items t.times.ticks.items c.args.bound c.args.self.now c.push.new.self.items _ _ _ c.self.invariant c.self.view_is c.requires
     (c.in_ok-push.ensures.items) (omega arith) c.index_mut.ensures.value c.in_default.ensures.ok in
     let more = c.push.new.self.ok.0 in
-    rw (steps_back t.first t.count t.steps.items t.rows.items t.times.moves.items t.times.ticks.items c.args.bound c.push.new.self.items _ a c.pop-in-Err-settled-2.new.self.items (c.pop-in-Err-settled-2.ensures.rest ∙ ap (λ (n : ℕ). take (n - 1) c.push.new.self.items) more),
-      times_back t.first t.count t.steps.items t.rows.items t.times.moves.items t.times.ticks.items c.args.bound c.push.new.self.items _ a _ _ c.settle-settled.new.times.moves.items c.settle-settled.new.times.ticks.items c.rewind.new.self.ticks.items c.settle-settled.ensures.past (omega arith) (omega arith) c.rewind.ensures.now)
+    rw (
+      steps_back t.first t.count t.steps.items t.rows.items t.times.moves.items t.times.ticks.items c.args.bound c.push.new.self.items _ a c.pop-in-Err-settled-2.new.self.items (c.pop-in-Err-settled-2.ensures.rest ∙ ap (λ (n : ℕ). take (n - 1) c.push.new.self.items) more),
+      times_back t.first t.count t.steps.items t.rows.items t.times.moves.items t.times.ticks.items c.args.bound c.push.new.self.items _ a _ _ c.settle-settled.new.times.moves.items c.settle-settled.new.times.ticks.items c.rewind.new.self.ticks.items c.settle-settled.ensures.past (omega arith) (omega arith) c.rewind.ensures.now,
+    )
     c.self.view_is
 
 pub returns-in-Err-settled-clause-cycle : goal.returns-in-Err-settled-clause-cycle
