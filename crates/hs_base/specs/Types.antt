@@ -50,3 +50,5 @@ pub use Rattle.hs_base.specs.declared.ast.AstHorizon.{AstHorizon}
 pub use Rattle.hs_base.specs.declared.ast.Ast.{Ast}
 pub use Rattle.hs_base.specs.declared.refusal.Refusal.{Refusal}
 pub use Rattle.hs_base.specs.declared.refusal.Refusal.TheVariants.{NotUtf8, Char, Expected, Number, Trailing, Twice, Unknown, Range as BadRange, Limit, NoBegin, Horizons, SameVar, SameBy, Memory as NoMemory}
+pub use Rattle.hs_base.specs.declared.fault.Fault.{Fault}
+pub use Rattle.hs_base.specs.declared.fault.Fault.TheVariants.{Base, Limit as OverLimit, Order, Fixed, WrongSupport, Unsupported, Goal as NoGoal, Cycle, Memory as NoMemoryLeft}

@@ -11,7 +11,10 @@ pub enum Deed {
     /// A device told the end of its token, which is executed now.
     Report(PointId),
     /// A plan was handed over; its last extension, and the network that it is dispatched by.
-    Handover { extension: Extension, net: Net },
+    Handover {
+        extension: Extension,
+        net: Net,
+    },
     /// A plan came too late; its last extension, and a bound of it that the times broke.
     Stale {
         extension: Extension,

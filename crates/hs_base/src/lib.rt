@@ -4,6 +4,7 @@
 
 mod ast;
 mod copies;
+mod fault;
 mod history;
 mod ids;
 mod kernel;
@@ -25,11 +26,12 @@ pub use ast::{
     Param, Sort, Use,
 };
 pub use copies::Copies;
+pub use fault::Fault;
 pub use history::{Deed, Entry, Phase};
 pub use ids::{PointId, SvId, ValId, WordId};
 pub use kernel::Core;
 pub use limits::{
-    ANSWERS, ANSWER_CLAUSES, CHOICES, FREE_POINTS, GOALS, HORIZONS, LAST, LAST_HORIZON, NAME_BYTES,
+    ANSWER_CLAUSES, ANSWERS, CHOICES, FREE_POINTS, GOALS, HORIZONS, LAST, LAST_HORIZON, NAME_BYTES,
     NEEDS, NEW_TOKENS, SCRIPT_STEPS, TEXT_BYTES, VALUES, VARIABLES,
 };
 pub use list::List;

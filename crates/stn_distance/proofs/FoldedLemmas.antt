@@ -1,5 +1,5 @@
 -- The schedules of folded bounds are those of the bounds, so their distances give those of all points.
-use Rattle.std.proofs.Common.{◌≡◌, ◌⊎◌, ℕ, ◌+◌, ◌<◌, ◌≤◌, Bool, true, false, cond, not, eqb, List, [], ◌∷◌, length, get_or, map, All, Contains, ℤ, pos, neg_ℤ, ◌+ℤ◌, ◌-ℤ◌, ◌≤ℤ◌, refl, sym, ap, ◌∙◌, subst, arith, inl, inr}
+use Rattle.std.proofs.Common.{◌≡◌, ℕ, ◌<◌, ◌≤◌, Bool, true, false, cond, not, List, [], ◌∷◌, length, get_or, map, All, Contains, ℤ, pos, ◌+ℤ◌, ◌-ℤ◌, ◌≤ℤ◌, sym, ap, ◌∙◌, arith, inl, inr}
 use Rattle.std.proofs.lemmas.Int.{ints}
 use Rattle.std.specs.List.{AllByRecursion}
 use Rattle.std.specs.List.Sorted.{IsPermutation}
@@ -7,14 +7,13 @@ use Rattle.std.proofs.lemmas.List.{get_or-map, length-map}
 use Rattle.std.proofs.lemmas.List.Elements.{All-contains, All-from_recursion, recursion_from_All}
 use Rattle.std.proofs.lemmas.List.Sorted.{All-permutation, IsPermutation-sym}
 use Rattle.std.proofs.lemmas.Bool.{cases_eq, ne_eqb}
-use Rattle.hs_base.specs.declared.ids.PointId.{PointId}
 use Rattle.hs_base.specs.declared.net.Bound.{Bound}
 use Rattle.hs_base.specs.declared.plan.Time.{Time}
 use Rattle.hs_base.specs.Schedule.{Schedule, time_of, Holds, Meets, MeetsList, Implied, Tight}
-use Rattle.stn_distance.specs.Ranges.{IsInRange, StaysInTime, IsFixed, IsNear}
-use Rattle.stn_distance.specs.Rows.{IsStep, Sample, IsRow, AreRows, AreSmall}
+use Rattle.stn_distance.specs.Ranges.{IsInRange, StaysInTime, IsFixed}
+use Rattle.stn_distance.specs.Rows.{IsStep, Sample, AreRows, AreSmall}
 use Rattle.stn_distance.specs.Folding.{number_at, IsFolding, is_apart, folded_bound, folded_bounds, spread_times}
-use Rattle.stn_distance.specs.Distances.{IsExact, folded_weight}
+use Rattle.stn_distance.specs.Distances.{IsExact}
 use Rattle.stn_distance.proofs.RowLemmas.{Sample-from_schedule, stays_low, stays_high, Implied-low}
 
 -- how points stand on rows, for every schedule of the bounds

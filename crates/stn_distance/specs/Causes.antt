@@ -3,7 +3,7 @@ use Rattle.std.specs.Prelude.{◌≡◌, ◌≢◌, ℕ, suc, ◌+◌, ◌-◌, 
 use Rattle.std.specs.List.{AllByRecursion}
 use Rattle.hs_base.specs.declared.net.Bound.{Bound}
 use Rattle.hs_base.specs.Schedule.{time_of, Holds, HasNoSchedule}
-use Rattle.stn_distance.specs.Cycles.{IsNegativeCycle}
+use Rattle.hs_base.specs.Cycles.{IsNegativeCycle}
 use Rattle.stn_distance.specs.declared.lowering.Lowering.{Lowering}
 use Rattle.stn_distance.specs.declared.lowering.Lowering.TheVariants.{Settled, Lowered, TooLow}
 use Rattle.stn_distance.specs.declared.search.Turn.{Turn}

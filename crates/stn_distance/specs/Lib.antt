@@ -1,6 +1,5 @@
 pub mod Broken
 pub mod Causes
-pub mod Cycles
 pub mod Distances
 pub mod Folding
 pub mod Ranges

@@ -1,7 +1,7 @@
 ghost use Rattle.std.specs.Prelude.{[], ◌+◌, ◌≤◌, length, All, IfOk, IfErr};
 ghost use Rattle.hs_base.specs.Schedule.{HasNoSchedule, MeetsList};
 ghost use Rattle.stn_distance.specs.Ranges.{IsInRange, StaysInTime, IsFixed};
-ghost use Rattle.stn_distance.specs.Cycles.{IsNegativeCycle};
+ghost use Rattle.hs_base.specs.Cycles.{IsNegativeCycle};
 ghost use Rattle.stn_distance.specs.Broken.{IfCycle};
 ghost use Rattle.stn_distance.specs.Distances.{IsDistOf};
 
@@ -48,12 +48,7 @@ fn dist_of(
 /// The distances of a network in which times of points are fixed, or bounds that no schedule
 /// keeps. A fixed point takes no row of the distances; only those of `fixed` are found whose
 /// points rise.
-pub fn close_fixed(
-    alloc: Global,
-    n: u32,
-    fixed: &[Time],
-    bounds: &[Bound],
-) -> Result<Dist, Broken>
+pub fn close_fixed(alloc: Global, n: u32, fixed: &[Time], bounds: &[Bound]) -> Result<Dist, Broken>
     requires few { (1 ≤ n) × (n ≤ POINTS) }
     requires rows { n ≤ length fixed.now + ROWS }
     requires range { All (IsInRange n) bounds.now }

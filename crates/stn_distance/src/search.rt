@@ -2,7 +2,7 @@ ghost use Rattle.std.specs.Prelude.{◌≡◌, ℕ, ◌<◌, ◌≤◌, ◌-ℤ�
 ghost use Rattle.hs_base.specs.Schedule.{MeetsList, HasNoSchedule, time_of};
 ghost use Rattle.stn_distance.specs.Ranges.{IsInRange, IsStart, IsNear};
 ghost use Rattle.stn_distance.specs.Causes.{Explained, IsAboveFloor, TurnSays};
-ghost use Rattle.stn_distance.specs.Cycles.{IsNegativeCycle};
+ghost use Rattle.hs_base.specs.Cycles.{IsNegativeCycle};
 ghost use Rattle.stn_distance.specs.Broken.{IfCycle};
 
 use crate::Broken;

@@ -1,4 +1,4 @@
-use Rattle.std.proofs.Common.{◌≡◌, ◌∙◌, ◌<◌, ◌≤◌, ℕ, ℤ, List, length, get_or, map, pos, neg_ℤ, ◌≤ℤ◌, All, refl, sym, ap, subst, arith}
+use Rattle.std.proofs.Common.{◌≡◌, ◌∙◌, ℕ, ℤ, List, length, map, All, refl, sym, ap, subst, arith}
 use Rattle.std.proofs.lemmas.Int.{ints}
 use Rattle.std.specs.List.Sorted.{IsPermutation}
 use Rattle.std.proofs.lemmas.List.{get_or_default}
@@ -6,10 +6,10 @@ use Rattle.std.proofs.lemmas.List.Sorted.{All-permutation}
 use Rattle.hs_base.specs.declared.net.Bound.{Bound}
 use Rattle.hs_base.specs.declared.plan.Time.{Time}
 use Rattle.hs_base.specs.Schedule.{MeetsList, time_of}
-use Rattle.stn_distance.specs.Ranges.{IsInRange, StaysInTime, IsFixed, IsNear}
-use Rattle.stn_distance.specs.Rows.{IsStep, Sample, AreSmall, AreRows, items_of}
-use Rattle.stn_distance.specs.Folding.{IsFolding, folded_bounds, number_at}
-use Rattle.stn_distance.specs.Distances.{Distances, IsDistOf, IsExact}
+use Rattle.stn_distance.specs.Ranges.{IsInRange, StaysInTime, IsFixed}
+use Rattle.stn_distance.specs.Rows.{IsStep, AreRows, items_of}
+use Rattle.stn_distance.specs.Folding.{IsFolding, folded_bounds}
+use Rattle.stn_distance.specs.Distances.{IsExact}
 use Rattle.stn_distance.proofs.RowLemmas.{Sample-from_schedule}
 use Rattle.stn_distance.proofs.DistLemmas.{IsTableOf-from_exact}
 use Rattle.stn_distance.proofs.FoldedLemmas.{IsFoldingOf, IsFoldingOf-from_fixed, IsStep-rows, StaysInTime-rows, StaysInTime-permuted, Sample-rows, AreSmall-rows, IsExact-from_rows}

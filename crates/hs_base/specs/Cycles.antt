@@ -1,6 +1,6 @@
 -- Ways along bounds, and cycles that no schedule keeps.
 use Rattle.std.specs.Prelude.{◌≡◌, ◌≢◌, ℕ, List, [], ◌∷◌, ℤ, pos, ◌+ℤ◌, ◌<ℤ◌, All, AllPairs, Contains}
-use Rattle.hs_base.specs.declared.net.Bound.{Bound}
+use Rattle.hs_base.specs.Types.{Bound}
 
 -- the bounds lead from p to q: each ends where the next begins
 abbrev pub Leads : ℕ → List Bound → ℕ → Type 0

@@ -1,0 +1,4 @@
+pub mod ScheduleLemmas
+pub mod PlanLemmas
+pub mod StateLemmas
+pub mod RunLemmas

@@ -1,0 +1,10 @@
+//! The points of a plan and the bounds between them.
+#![tactic(auto)]
+
+mod apart;
+mod items;
+mod lookups;
+mod numbers;
+mod table;
+
+pub use numbers::{end_of, horizon_point, observed, points, start_of};
