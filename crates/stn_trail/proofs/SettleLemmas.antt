@@ -3,7 +3,7 @@ use Rattle.std.proofs.lemmas.List.Elements.{All-weaker, All-contains, All-contai
 use Rattle.hs_base.specs.declared.net.Bound.{Bound}
 use Rattle.hs_base.specs.Schedule.{time_of, Holds, Meets}
 use Rattle.stn_distance.specs.Ranges.{IsInRange}
-use Rattle.stn_distance.specs.Cycles.{IsNegativeCycle}
+use Rattle.hs_base.specs.Cycles.{IsNegativeCycle}
 use Rattle.stn_trail.specs.Rows.{IsIn, AreRows, AreRowsOf}
 use Rattle.stn_trail.specs.Covered.{AreCovered}
 use Rattle.stn_trail.specs.Rounds.{IsRound}

@@ -1,7 +1,7 @@
 ghost use Rattle.std.specs.Prelude.{◌≡◌, ℕ, ◌+◌, ◌-◌, ◌<◌, ◌≤◌, [], ◌∷◌, ◌++◌, length, replicate, vec_len, IfOk, IfErr, OnOk, OnErr};
 ghost use Rattle.hs_base.specs.Schedule.{time_of, HasNoSchedule};
 ghost use Rattle.stn_distance.specs.Ranges.{IsInRange};
-ghost use Rattle.stn_distance.specs.Cycles.{IsNegativeCycle};
+ghost use Rattle.hs_base.specs.Cycles.{IsNegativeCycle};
 ghost use Rattle.stn_distance.specs.Broken.{IfCycle};
 ghost use Rattle.stn_trail.specs.declared.part.Part.TheVariants.{Grown, Added};
 ghost use Rattle.stn_trail.specs.Widens.{Widens};

@@ -2,7 +2,7 @@ use Rattle.std.proofs.Common.{◌≡◌, ℕ, ◌∙◌, ap, sym, subst, List, [
 use Rattle.hs_base.specs.declared.net.Bound.{Bound}
 use Rattle.hs_base.specs.Schedule.{time_of, Meets, HasNoSchedule}
 use Rattle.stn_distance.specs.Ranges.{IsInRange}
-use Rattle.stn_distance.specs.Cycles.{IsNegativeCycle}
+use Rattle.hs_base.specs.Cycles.{IsNegativeCycle}
 use Rattle.stn_distance.specs.Broken.{IfCycle}
 use Rattle.stn_trail.specs.declared.part.Step.{Step}
 use Rattle.stn_trail.specs.Rows.{row_at, AreRowsOf}
