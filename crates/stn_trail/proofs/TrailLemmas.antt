@@ -252,3 +252,9 @@ Widens-row count moves rows times times' w l = record {
   trail = λ first steps h. IsTrail-longer_rows first count steps rows moves times' (w.trail first steps h) l;
   same = w.same;
 }
+
+-- how many points there are after a part
+pub points_push : (first : ℕ) (steps steps' : List Step) (s : Step) (p : Part) → steps' ≡ steps ++ s ∷ [] → s.part ≡ p
+    → first + grown (parts_of steps') ≡ first + grown (parts_of steps) + grown (p ∷ [])
+points_push first steps steps' s p e part =
+    let g = grown_push steps s p part in ap (λ (ss : List Step). first + grown (parts_of ss)) e ∙ omega arith

@@ -100,6 +100,7 @@ impl Trail {
         requires { points_of self.old < POINTS }
         ensures point { IfOk result (λ p. p.0 ≡ points_of self.old) }
         ensures grown { OnOk result (Appends Grown self.old self.new) }
+        ensures points { OnOk result (points_of self.new ≡ points_of self.old + 1) }
         ensures kept { OnOk result (IsKept self.new) }
         ensures err { OnErr result (self.new ≡ self.old) }
     {
@@ -121,6 +122,7 @@ impl Trail {
     pub fn add(&mut self, bound: Bound) -> Result<(), Broken>
         requires { IsInRange (points_of self.old) bound }
         ensures added { OnOk result (Appends (Added bound) self.old self.new) }
+        ensures points { points_of self.new ≡ points_of self.old }
         ensures kept { OnOk result (IsKept self.new) }
         ensures err { OnErr result (self.new ≡ self.old) }
         ensures cycle { IfErr result (λ e. IfCycle e (IsNegativeCycle (bounds_of self.old ++ bound ∷ []))) }

@@ -1,9 +1,10 @@
 use Rattle.std.proofs.Common.{◌≡◌, ℕ, ◌+◌, ◌<◌, ◌∙◌, ap, subst, sym, List, [], ◌∷◌, ◌++◌, length, refl, arith}
+use Rattle.stn_trail.specs.declared.part.Part.TheVariants.{Grown}
 use Rattle.stn_trail.specs.declared.part.Step.{Step}
 use Rattle.stn_trail.specs.declared.moves.Move.{Move}
 use Rattle.stn_trail.specs.Held.{Held, points_of}
 use Rattle.stn_trail.specs.History.{IsTrail}
-use Rattle.stn_trail.proofs.TrailLemmas.{IsTrail-grown, MeetsList-now}
+use Rattle.stn_trail.proofs.TrailLemmas.{IsTrail-grown, MeetsList-now, points_push}
 use Rattle.stn_trail.proofs.trail.Trail.grow.Goals as goal
 
 pub invariant_of-self-2 : goal.invariant_of-self-2
@@ -19,3 +20,8 @@ pub returns-clause-kept : goal.returns-clause-kept
 returns-clause-kept c =
     let t = c.self.inside in
     MeetsList-now t.first (t.count + 1) c.push.new.self.items c.make_room.new.rows.items c.make_room.new.times.moves.items c.make_room.new.times.ticks.items (invariant_of-self-2 c)
+
+pub returns-clause-points : goal.returns-clause-points
+returns-clause-points c =
+    let t = c.self.inside in
+    points_push t.first t.steps.items c.push.new.self.items _ Grown c.in_ok-push.ensures.items refl ∙ ap (λ (n : ℕ). n + 1) (ap points_of c.self.view_is)
