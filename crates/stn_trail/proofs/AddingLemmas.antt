@@ -43,7 +43,6 @@ IsAdding-pushed first count steps rows moves times b held steps' n row row' t is
 
 module _ (first count : ℕ) (steps : List Step) (rows : List (List Bound)) (moves : List Move) (times : List ℤ) (b : Bound) (steps' : List Step) (rows' : List (List Bound))
     (h : IsAdding first count steps rows moves times b steps' rows') where
-
   pub added_is : added (parts_of steps') ≡ added (parts_of steps) ++ b ∷ []
   added_is = ap (λ (ss : List Step). added (parts_of ss)) h.steps_is ∙ added_push steps h.step b h.part
 
@@ -69,8 +68,8 @@ module _ (first count : ℕ) (steps : List Step) (rows : List (List Bound)) (mov
       → Meets (added (parts_of steps')) (time_of times') → IsTrail first count steps' rows' moves' times'
   trail_added k moves' times' past e size m =
       rw (h.steps_is, h.rows_is) (IsTrail-added first count steps rows moves times h.step b moves' times' h.trail h.range h.part h.since
-        (subst (λ (j : ℕ). KeepsPast j moves times moves' times') e past) size
-        (subst (λ (ss : List Step). Meets (added (parts_of ss)) (time_of times')) h.steps_is m))
+      (subst (λ (j : ℕ). KeepsPast j moves times moves' times') e past) size
+      (subst (λ (ss : List Step). Meets (added (parts_of ss)) (time_of times')) h.steps_is m))
 
   pub steps_back : (steps'' : List Step) → steps'' ≡ take (length steps' - 1) steps' → steps'' ≡ steps
   steps_back steps'' e =
@@ -92,7 +91,7 @@ module _ (first count : ℕ) (steps : List Step) (rows : List (List Bound)) (mov
       let m : moves'' ≡ take (length moves) moves' = em ∙ ap (λ (j : ℕ). take j moves') en in
       let t : times'' ≡ restored (drop (length moves) moves') times' = et ∙ ap (λ (j : ℕ). restored (drop j moves') times') en in
       rw (er, steps_back steps'' es, m, t) (IsTrail-refused first count steps rows moves times h.step b moves' times' rows' h.trail h.range h.part
-        (subst (λ (j : ℕ). KeepsPast j moves times moves' times') ek past) (subst (λ (ss : List Step). AreRowsOf (added (parts_of ss)) rows') h.steps_is rows_of) size)
+      (subst (λ (j : ℕ). KeepsPast j moves times moves' times') ek past) (subst (λ (ss : List Step). AreRowsOf (added (parts_of ss)) rows') h.steps_is rows_of) size)
 
   pub row_back : (old row : List Bound) → old ≡ get_or rows' b.to.0 old → row ≡ take (length old - 1) old
       → row ≡ take (length (row_at rows' b.to.0) - 1) (row_at rows' b.to.0)

@@ -49,7 +49,7 @@ AreCovered-raised rows times waiting c left z h inside apart due later =
     record {
       each = λ b i. elim (cases_eq b.to.0 p) [
         | inl s ↦ inr (inl (subst (λ (r : Raised). Contains (waiting ++ new ∷ []) r)
-              (new_is b.to.0 s) (Contains-push waiting new)))
+            (new_is b.to.0 s) (Contains-push waiting new)))
         | inr n ↦ elim (h.each b i) [
           | inl holds ↦ inl (kept b n holds)
           | inr (inl waits) ↦ inr (inl (subst (λ (r : Raised). Contains (waiting ++ new ∷ []) r)

@@ -107,15 +107,17 @@ IsHistory-back first steps s moves times h =
     let since : moves_at (steps ++ s ∷ []) moves n ≡ s.since = ap (λ (xs : List ℕ). get_or xs n (length moves)) (map-append f steps (s ∷ [])) ∙ get_or_push (map f steps) s.since (length moves) n (omega arith) in
     let fits : s.since ≤ length moves = (let r = h.rising n (n + 1) (omega arith) (omega arith) in let e = moves_at-end (steps ++ s ∷ []) moves (n + 1) (omega arith) in omega arith) in
     let left = length-take-le s.since moves fits in
-    let at : (k : ℕ) → k ≤ n → moves_at steps (take s.since moves) k ≡ moves_at (steps ++ s ∷ []) moves k = λ k l. sym (moves_at-push steps s (take s.since moves) moves k (sym left) l) in
-    (fits, record {
-      rising = λ j k ljk lk. (let a = at j (omega arith) in let b = at k lk in let r = h.rising j k ljk (omega arith) in omega arith);
-      stood = λ k lk.
-          let low : moves_at (steps ++ s ∷ []) moves k ≤ s.since = (let r = h.rising k n lk (omega arith) in omega arith) in
-          subst (λ (ss : List Step). StandsAt first (parts_of ss) (times_at (moves_at steps (take s.since moves) k) (take s.since moves) (restored (drop s.since moves) times))) (take-append-le k steps (s ∷ []) lk)
-          (subst (StandsAt first (parts_of (take k (steps ++ s ∷ []))))
+    let at : (k : ℕ) → k ≤ n → moves_at steps (take s.since moves) k ≡ moves_at (steps ++ s ∷ []) moves k = λ k l. sym (moves_at-push steps s (take s.since moves) moves k (sym left) l) in (
+      fits,
+      record {
+        rising = λ j k ljk lk. (let a = at j (omega arith) in let b = at k lk in let r = h.rising j k ljk (omega arith) in omega arith);
+        stood = λ k lk.
+            let low : moves_at (steps ++ s ∷ []) moves k ≤ s.since = (let r = h.rising k n lk (omega arith) in omega arith) in
+            subst (λ (ss : List Step). StandsAt first (parts_of ss) (times_at (moves_at steps (take s.since moves) k) (take s.since moves) (restored (drop s.since moves) times))) (take-append-le k steps (s ∷ []) lk)
+            (subst (StandsAt first (parts_of (take k (steps ++ s ∷ []))))
             (sym (ap (λ (j : ℕ). times_at j (take s.since moves) (restored (drop s.since moves) times)) (at k lk) ∙ times_at-back s.since (moves_at (steps ++ s ∷ []) moves k) moves times low fits)) (h.stood k (omega arith)));
-    })
+      },
+    )
 
 -- with no part, points at 0
 pub IsHistory-begin : (first : ℕ) → 1 ≤ first → IsHistory first [] [] (replicate first (pos 0))

@@ -5,7 +5,7 @@ use Rattle.std.proofs.lemmas.List.Elements.{All-push}
 use Rattle.hs_base.specs.declared.ids.PointId.{PointId}
 use Rattle.hs_base.specs.declared.net.Bound.{Bound}
 use Rattle.hs_base.specs.Schedule.{bound}
-use Rattle.stn_distance.specs.Cycles.{Leads, total}
+use Rattle.hs_base.specs.Cycles.{Leads, total}
 use Rattle.stn_trail.specs.Rows.{IsIn}
 use Rattle.stn_trail.specs.Rounds.{IsRound}
 

@@ -1,9 +1,9 @@
-use Rattle.std.proofs.Common.{◌≡◌, ℕ, ◌<◌, ◌≤◌, List, [], length, All, Contains, ℤ, pos, arith, inl, inr}
+use Rattle.std.proofs.Common.{◌≡◌, ℕ, ◌-◌, ◌+◌, ◌<◌, ◌≤◌, List, [], ◌∷◌, length, drop, get_or, get_or-drop, All, Contains, ℤ, pos, arith, inl, inr, ap, ◌∙◌, sym, subst}
 use Rattle.std.proofs.lemmas.List.Elements.{All-weaker, All-contains, All-contains_itself, recursion_from_All}
 use Rattle.hs_base.specs.declared.net.Bound.{Bound}
 use Rattle.hs_base.specs.Schedule.{time_of, Holds, Meets}
 use Rattle.stn_distance.specs.Ranges.{IsInRange}
-use Rattle.stn_distance.specs.Cycles.{IsNegativeCycle}
+use Rattle.hs_base.specs.Cycles.{IsNegativeCycle}
 use Rattle.stn_trail.specs.Rows.{IsIn, AreRows, AreRowsOf}
 use Rattle.stn_trail.specs.Covered.{AreCovered}
 use Rattle.stn_trail.specs.Rounds.{IsRound}
@@ -36,3 +36,12 @@ IsNegativeCycle-round bounds rows cycle h r = record {
   distinct = r.distinct;
   negative = r.negative;
 }
+
+-- the last bound of a row stands in it
+pub Contains-last : (row : List Bound) (b : Bound) → drop (length row - 1) row ≡ b ∷ [] → Contains row b
+Contains-last [] b e = absurd (cc)
+Contains-last (x ∷ xs) b e =
+    let n : length (x ∷ xs) - 1 ≡ length xs = omega arith in
+    let tail : drop (length xs) (x ∷ xs) ≡ b ∷ [] = ap (λ (k : ℕ). drop k (x ∷ xs)) (sym n) ∙ e in
+    let here : get_or (x ∷ xs) (length xs) b ≡ get_or (x ∷ xs) (length xs + 0) b = ap (λ (k : ℕ). get_or (x ∷ xs) k b) (omega arith) in
+    (length xs, omega arith, here ∙ sym (get_or-drop (length xs) (x ∷ xs) 0 b) ∙ ap (λ (ys : List Bound). get_or ys 0 b) tail)

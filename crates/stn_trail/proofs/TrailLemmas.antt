@@ -1,7 +1,7 @@
 use Rattle.std.proofs.Common.{◌≡◌, ℕ, zero, suc, ◌+◌, ◌-◌, ◌<◌, ◌≤◌, List, [], ◌∷◌, ◌++◌, length, take, drop, map, set, get_or, All, Contains, ℤ, pos, refl, ap, ◌∙◌, sym, subst, arith, inl, inr, length-set, replicate}
 use Rattle.std.specs.List.{AllByRecursion}
 use Rattle.std.proofs.lemmas.Int.{ints}
-use Rattle.std.proofs.lemmas.List.{map-append, append-nil, drop_at, get_or-take, get_or-replicate, length_push, length-take-le, length-replicate}
+use Rattle.std.proofs.lemmas.List.{map-append, append-nil, drop_at, get_or-take, get_or-replicate, length_push, length-take-le, take-append-le, length-replicate}
 use Rattle.std.proofs.lemmas.List.Elements.{All-push, All-weaker, All-contains, All-from_recursion, recursion_from_All, Contains-push, Contains-push_cases}
 use Rattle.hs_base.specs.declared.net.Bound.{Bound}
 use Rattle.hs_base.specs.Schedule.{time_of, Holds, Meets, MeetsList}
@@ -15,6 +15,7 @@ use Rattle.stn_trail.specs.Covered.{AreCovered}
 use Rattle.stn_trail.specs.Moves.{restored, times_at, KeepsPast}
 use Rattle.stn_trail.specs.Held.{grown, added}
 use Rattle.stn_trail.specs.History.{parts_of, StandsAt, IsHistory, IsTrail}
+use Rattle.stn_trail.specs.Widens.{Widens}
 use Rattle.stn_trail.proofs.MoveLemmas.{KeepsPast-same}
 use Rattle.stn_trail.proofs.PartLemmas.{added-append, grown-append}
 use Rattle.stn_trail.proofs.RowLemmas.{row_bounds, AreRowsOf-push, AreRowsOf-pop, AreRowsOf-grown}
@@ -84,7 +85,7 @@ IsTrail-added first count steps rows moves times s b moves' times' h r e since p
       times_room = omega arith;
       rows_of = rows_added first count steps rows moves times s b h r e;
       history = IsHistory-push first steps s moves times moves' times' h.history past since
-        (record { range = subst (λ (k : ℕ). All (IsInRange k) (added (parts_of (steps ++ s ∷ [])))) n (range_added first count steps rows moves times s b h r e); meets = m });
+          (record { range = subst (λ (k : ℕ). All (IsInRange k) (added (parts_of (steps ++ s ∷ [])))) n (range_added first count steps rows moves times s b h r e); meets = m });
     }
 
 -- a refused bound leaves the times
@@ -126,7 +127,7 @@ IsTrail-grown first count steps rows moves times s h e since room few =
       rows_of = subst (λ (bs : List Bound). AreRowsOf bs rows) (sym same) h.rows_of;
       history = IsHistory-push first steps s moves times moves times h.history (KeepsPast-same (length moves) moves times (omega arith)) since (record {
         range = subst (All (IsInRange (first + grown (parts_of (steps ++ s ∷ []))))) (sym same) (All-weaker (IsInRange (first + grown (parts_of steps))) (IsInRange (first + grown (parts_of (steps ++ s ∷ []))))
-          (λ b r. (let f = r.from_below in let t = r.to_below in record { from_below = omega arith; to_below = omega arith; low = r.low; high = r.high })) (added (parts_of steps)) now.range);
+            (λ b r. (let f = r.from_below in let t = r.to_below in record { from_below = omega arith; to_below = omega arith; low = r.low; high = r.high })) (added (parts_of steps)) now.range);
         meets = subst (λ (bs : List Bound). Meets bs (time_of times)) (sym same) now.meets;
       });
     }
@@ -176,6 +177,14 @@ IsTrail-back_grown first count steps rows moves times s h e =
       history = (IsHistory-back first steps s moves times h.history).1;
     }
 
+-- the row of the last bound is there
+pub end_below : (first count : ℕ) (steps : List Step) (rows : List (List Bound)) (moves : List Move) (times : List ℤ) (s : Step) (b : Bound)
+    → IsTrail first count (steps ++ s ∷ []) rows moves times → s.part ≡ Added b → b.to.0 < length rows
+end_below first count steps rows moves times s b h e =
+    let room = h.rows_room in
+    let t = (All-contains (IsInRange count) (added (parts_of (steps ++ s ∷ []))) b (range_now first count (steps ++ s ∷ []) rows moves times h) (subst (λ (bs : List Bound). Contains bs b) (sym (added_push steps s b e)) (Contains-push (added (parts_of steps)) b))).to_below in
+    omega arith
+
 pub IsTrail-back_added : (first count : ℕ) (steps : List Step) (rows : List (List Bound)) (moves : List Move) (times : List ℤ) (s : Step) (b : Bound)
     → IsTrail first count (steps ++ s ∷ []) rows moves times → s.part ≡ Added b
     → IsTrail first count steps (set rows b.to.0 (take (length (row_at rows b.to.0) - 1) (row_at rows b.to.0))) (take s.since moves) (restored (drop s.since moves) times)
@@ -183,7 +192,7 @@ IsTrail-back_added first count steps rows moves times s b h e =
     let g = grown_push steps s (Added b) e in let counted = h.counted in let room = h.rows_room in let room' = h.times_room in
     let size = length-restored (drop s.since moves) times in
     let shorter = length-set rows b.to.0 (take (length (row_at rows b.to.0) - 1) (row_at rows b.to.0)) in
-    let last = (All-contains (IsInRange count) (added (parts_of (steps ++ s ∷ []))) b (range_now first count (steps ++ s ∷ []) rows moves times h) (subst (λ (bs : List Bound). Contains bs b) (sym (added_push steps s b e)) (Contains-push (added (parts_of steps)) b))).to_below in
+    let last = end_below first count steps rows moves times s b h e in
     record {
       some = h.some;
       counted = omega arith;
@@ -207,7 +216,7 @@ MeetsList-now first count steps rows moves times h =
       times = record {
         origin = read 0 (omega arith) ∙ now.meets.origin;
         each = recursion_from_All (Holds (time_of (take count times))) bounds
-          (λ k d l. (let r = now.range k d l in let f = r.from_below in let t = r.to_below in let b = get_or bounds k d in
+            (λ k d l. (let r = now.range k d l in let f = r.from_below in let t = r.to_below in let b = get_or bounds k d in
             let ef = read b.from.0 (omega arith) in let et = read b.to.0 (omega arith) in
             let m = All-from_recursion (Holds (time_of times)) bounds now.meets.each k d l in omega (arith, ints)));
       };
@@ -226,3 +235,26 @@ IsTrail-begin points rows some few e =
       rows_of = record { each = λ v l. ap (λ (rs : List (List Bound)). row_at rs v) e ∙ get_or-replicate points v [] [] (omega arith) };
       history = IsHistory-begin points some;
     }
+
+pub Widens-same : (count : ℕ) (moves : List Move) (rows : List (List Bound)) (times : List ℤ) → Widens count moves rows times rows times
+Widens-same count moves rows times = record { trail = λ first steps h. h; same = refl }
+
+pub Widens-times : (count : ℕ) (moves : List Move) (rows : List (List Bound)) (times : List ℤ) (n : ℕ) → count ≤ length times → n ≡ length times → All (λ m. m.point < n) moves
+    → Widens count moves rows times rows (times ++ pos 0 ∷ [])
+Widens-times count moves rows times n l e inside = record {
+  trail = λ first steps h. IsTrail-longer_times first count steps rows moves times h (All-weaker (λ m. m.point < n) (λ m. m.point < length times) (λ m i. omega arith) moves inside);
+  same = take-append-le count times (pos 0 ∷ []) l;
+}
+
+pub Widens-row : (count : ℕ) (moves : List Move) (rows : List (List Bound)) (times times' : List ℤ) → Widens count moves rows times rows times' → length rows < length times'
+    → Widens count moves rows times (rows ++ [] ∷ []) times'
+Widens-row count moves rows times times' w l = record {
+  trail = λ first steps h. IsTrail-longer_rows first count steps rows moves times' (w.trail first steps h) l;
+  same = w.same;
+}
+
+-- how many points there are after a part
+pub points_push : (first : ℕ) (steps steps' : List Step) (s : Step) (p : Part) → steps' ≡ steps ++ s ∷ [] → s.part ≡ p
+    → first + grown (parts_of steps') ≡ first + grown (parts_of steps) + grown (p ∷ [])
+points_push first steps steps' s p e part =
+    let g = grown_push steps s p part in ap (λ (ss : List Step). first + grown (parts_of ss)) e ∙ omega arith

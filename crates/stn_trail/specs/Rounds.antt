@@ -2,7 +2,7 @@
 use Rattle.std.specs.Prelude.{◌≡◌, ◌≢◌, ℕ, List, slice_index_or, ℤ, pos, ◌<ℤ◌, All, AllPairs}
 use Rattle.hs_base.specs.declared.net.Bound.{Bound}
 use Rattle.hs_base.specs.Schedule.{bound}
-use Rattle.stn_distance.specs.Cycles.{Leads, total}
+use Rattle.hs_base.specs.Cycles.{Leads, total}
 use Rattle.stn_trail.specs.declared.moves.Cause.{Cause}
 use Rattle.stn_trail.specs.Rows.{row_at, IsIn}
 

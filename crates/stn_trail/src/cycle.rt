@@ -31,6 +31,30 @@ fn cause_of(rows: &[Row], causes: &[Cause], point: u32) -> Option<Bound>
     Some(row[place])
 }
 
+/// Which of two bounds the causes lead back from to their own start: the added bound, if its end
+/// hangs on its start, or the bound at which the raise met a point that stays.
+pub(crate) fn closing(rows: &[Row], causes: &[Cause], added: Bound, back: Bound) -> Bound
+    requires rows { AreRows rows.now }
+    requires added { IsIn rows.now added }
+    requires back { IsIn rows.now back }
+    ensures { IsIn rows.now result }
+{
+    if back.from.0 == added.to.0 {
+        return back;
+    }
+    let mut at = added.to.0;
+    'back: for _ in 0..rows.len() {
+        let Some(bound) = cause_of(rows, causes, at) else {
+            return back;
+        };
+        at = bound.to.0;
+        if at == added.from.0 {
+            return added;
+        }
+    }
+    back
+}
+
 /// Follows the causes from the end of a bound back to its start: a negative cycle, if they lead
 /// there.
 pub(crate) fn trace(

@@ -10,6 +10,8 @@ mod row;
 mod settle;
 mod solving;
 mod spread;
+#[cfg(test)]
+mod tests;
 mod times;
 mod trail;
 

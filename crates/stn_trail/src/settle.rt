@@ -1,7 +1,7 @@
 ghost use Rattle.std.specs.Prelude.{◌≡◌, ◌-◌, ◌<◌, ◌≤◌, [], ◌∷◌, length, drop, All, vec_len, pos, IfOk, IfErr, OnOk};
 ghost use Rattle.hs_base.specs.Schedule.{time_of, Meets, HasNoSchedule};
 ghost use Rattle.stn_distance.specs.Ranges.{IsInRange};
-ghost use Rattle.stn_distance.specs.Cycles.{IsNegativeCycle};
+ghost use Rattle.hs_base.specs.Cycles.{IsNegativeCycle};
 ghost use Rattle.stn_distance.specs.Broken.{IfCycle};
 ghost use Rattle.stn_trail.specs.Covered.{AreCovered};
 ghost use Rattle.stn_trail.specs.Found.{Finds};
@@ -10,7 +10,7 @@ ghost use Rattle.stn_trail.specs.History.{parts_of};
 ghost use Rattle.stn_trail.specs.Moves.{KeepsPast};
 ghost use Rattle.stn_trail.specs.Rows.{row_at, AreRows, AreRowsOf};
 
-use crate::cycle::trace;
+use crate::cycle::{closing, trace};
 use crate::moves::Cause;
 use crate::part::Step;
 use crate::raised::Queue;
@@ -100,10 +100,13 @@ pub(crate) fn settle(
     let limit = rows.len().saturating_mul(steps.len()).saturating_add(1);
     match raise_last(rows, bound.to.0, limit, times, queue)? {
         Found::Kept => Ok(()),
-        Found::Back(back) => match trace(alloc, rows, &times.causes, back)? {
-            Some(cycle) => Err(Broken::Cycle(cycle)),
-            None => solve_anew(alloc, points, steps, times),
-        },
+        Found::Back(back) => {
+            let first = closing(rows, &times.causes, bound, back);
+            match trace(alloc, rows, &times.causes, first)? {
+                Some(cycle) => Err(Broken::Cycle(cycle)),
+                None => solve_anew(alloc, points, steps, times),
+            }
+        }
         Found::Lost => solve_anew(alloc, points, steps, times),
     }
 }

@@ -1,7 +1,7 @@
 ghost use Rattle.std.specs.Prelude.{◌≡◌, ◌<◌, ◌≤◌, length, All, vec_len, IfOk, IfErr, OnOk};
 ghost use Rattle.hs_base.specs.Schedule.{time_of, Meets, HasNoSchedule};
 ghost use Rattle.stn_distance.specs.Ranges.{IsInRange};
-ghost use Rattle.stn_distance.specs.Cycles.{IsNegativeCycle};
+ghost use Rattle.hs_base.specs.Cycles.{IsNegativeCycle};
 ghost use Rattle.stn_distance.specs.Broken.{IfCycle};
 ghost use Rattle.stn_trail.specs.Moves.{KeepsPast};
 ghost use Rattle.stn_trail.specs.Held.{added};

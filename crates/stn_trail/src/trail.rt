@@ -1,9 +1,10 @@
-ghost use Rattle.std.specs.Prelude.{◌≡◌, ℕ, ◌+◌, ◌-◌, ◌<◌, ◌≤◌, [], ◌∷◌, ◌++◌, length, replicate, IfOk, IfErr, OnOk, OnErr};
+ghost use Rattle.std.specs.Prelude.{◌≡◌, ℕ, ◌+◌, ◌-◌, ◌<◌, ◌≤◌, [], ◌∷◌, ◌++◌, length, replicate, vec_len, IfOk, IfErr, OnOk, OnErr};
 ghost use Rattle.hs_base.specs.Schedule.{time_of, HasNoSchedule};
 ghost use Rattle.stn_distance.specs.Ranges.{IsInRange};
-ghost use Rattle.stn_distance.specs.Cycles.{IsNegativeCycle};
+ghost use Rattle.hs_base.specs.Cycles.{IsNegativeCycle};
 ghost use Rattle.stn_distance.specs.Broken.{IfCycle};
 ghost use Rattle.stn_trail.specs.declared.part.Part.TheVariants.{Grown, Added};
+ghost use Rattle.stn_trail.specs.Widens.{Widens};
 ghost use Rattle.stn_trail.specs.Held.{points_of, bounds_of, IsKept, IsFresh, Appends, Leaves};
 
 use crate::part::Step;
@@ -54,6 +55,28 @@ fn empty_rows(alloc: Global, points: u32) -> Result<Vec<Row>, Memory>
     Ok(rows)
 }
 
+/// Room for one more point than `count`.
+fn make_room(
+    alloc: Global,
+    count: usize,
+    times: &mut Times,
+    rows: &mut Vec<Row>,
+) -> Result<(), Memory>
+    requires { (count ≤ vec_len rows.old) × (vec_len rows.old ≤ vec_len times.old.ticks) }
+    ensures room { OnOk result (count < vec_len rows.new) }
+    ensures wider { Widens count times.old.moves.items rows.old.items times.old.ticks.items rows.new.items times.new.ticks.items }
+    ensures moves { times.new.moves.items ≡ times.old.moves.items }
+{
+    if rows.len() > count {
+        return Ok(());
+    }
+    if times.ticks.len() == count {
+        times.grow()?;
+    }
+    rows.push(Row::new(alloc))?;
+    Ok(())
+}
+
 impl Trail {
     /// A trail of so many points, 1 to 131,072, the origin among them.
     pub fn begin(alloc: Global, points: u32) -> Result<Trail, Memory>
@@ -77,16 +100,12 @@ impl Trail {
         requires { points_of self.old < POINTS }
         ensures point { IfOk result (λ p. p.0 ≡ points_of self.old) }
         ensures grown { OnOk result (Appends Grown self.old self.new) }
+        ensures points { OnOk result (points_of self.new ≡ points_of self.old + 1) }
         ensures kept { OnOk result (IsKept self.new) }
         ensures err { OnErr result (self.new ≡ self.old) }
     {
         let point = self.count;
-        if self.times.ticks.len() == point as usize {
-            self.times.grow()?;
-        }
-        if self.rows.len() == point as usize {
-            self.rows.push(Row::new(self.alloc))?;
-        }
+        make_room(self.alloc, point as usize, &mut self.times, &mut self.rows)?;
         self.steps.push(Step {
             part: Part::Grown,
             since: self.times.moves.len(),
@@ -103,6 +122,7 @@ impl Trail {
     pub fn add(&mut self, bound: Bound) -> Result<(), Broken>
         requires { IsInRange (points_of self.old) bound }
         ensures added { OnOk result (Appends (Added bound) self.old self.new) }
+        ensures points { points_of self.new ≡ points_of self.old }
         ensures kept { OnOk result (IsKept self.new) }
         ensures err { OnErr result (self.new ≡ self.old) }
         ensures cycle { IfErr result (λ e. IfCycle e (IsNegativeCycle (bounds_of self.old ++ bound ∷ []))) }
@@ -149,7 +169,7 @@ impl Trail {
         ensures left { Leaves mark self.old self.new }
         ensures kept { IsKept self.new }
     {
-        'parts: while self.mark().parts() > mark.parts() {
+        'parts: while self.steps.len() > mark.parts() {
             self.take_back();
         }
     }

@@ -2,15 +2,22 @@ use Rattle.std.proofs.Common.{◌≡◌, ◌∙◌, ap, subst, List, [], ℤ, Op
 use Rattle.hs_base.specs.declared.net.Bound.{Bound}
 use Rattle.hs_base.specs.Schedule.{time_of}
 use Rattle.stn_distance.proofs.CauseLemmas.{HasNoSchedule-from_cycle}
+use Rattle.stn_trail.specs.Rows.{row_at}
 use Rattle.stn_trail.specs.Rounds.{IsRound}
 use Rattle.stn_trail.specs.Found.{Finds}
 use Rattle.stn_trail.specs.Held.{added}
 use Rattle.stn_trail.specs.History.{parts_of}
-use Rattle.stn_trail.proofs.SettleLemmas.{AreRows-in_range, Meets-covered, IsNegativeCycle-round}
+use Rattle.stn_trail.proofs.SettleLemmas.{AreRows-in_range, Meets-covered, IsNegativeCycle-round, Contains-last}
 use Rattle.stn_trail.proofs.settle.settle.Goals as goal
 
 pub raise_last-requires-clause-rows : goal.raise_last-requires-clause-rows
 raise_last-requires-clause-rows c = AreRows-in_range c.args.points (added (parts_of c.args.steps.now)) c.args.rows.now c.requires.rows c.requires.range c.requires.room.0
+
+pub closing-first-requires-clause-rows : goal.closing-first-requires-clause-rows
+closing-first-requires-clause-rows c = AreRows-in_range c.args.points (added (parts_of c.args.steps.now)) c.args.rows.now c.requires.rows c.requires.range c.requires.room.0
+
+pub closing-first-requires-clause-added : goal.closing-first-requires-clause-added
+closing-first-requires-clause-added c = Contains-last (row_at c.args.rows.now c.args.bound.to.0) c.args.bound c.requires.last
 
 pub trace-requires-clause-rows : goal.trace-requires-clause-rows
 trace-requires-clause-rows c = AreRows-in_range c.args.points (added (parts_of c.args.steps.now)) c.args.rows.now c.requires.rows c.requires.range c.requires.room.0

@@ -19,5 +19,5 @@ moves-preserved-in-Some c =
       fewer = omega arith;
       front = sym (take_at rest (last ∷ []) (length rest) refl) ∙ ap (take (length rest)) (sym popped ∙ h.front) ∙ take-take (length rest) (length old) c.args.self.now.moves.items (omega arith);
       past = rw same (sym (restored-last c.args.moves rest last c.moves.self.ticks.items (omega arith))
-        ∙ ap (λ (ms : List Move). restored (drop c.args.moves ms) c.moves.self.ticks.items) (sym popped) ∙ h.past);
+          ∙ ap (λ (ms : List Move). restored (drop c.args.moves ms) c.moves.self.ticks.items) (sym popped) ∙ h.past);
     }

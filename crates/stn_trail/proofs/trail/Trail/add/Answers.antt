@@ -1,15 +1,16 @@
-use Rattle.std.proofs.Common.{◌≡◌, ℕ, ◌∙◌, ap, sym, subst, List, [], ◌∷◌, ◌++◌, take, drop, set, get_or, arith, length, ℤ, ◌-◌, vec_len}
+use Rattle.std.proofs.Common.{refl, ◌≡◌, ℕ, ◌∙◌, ap, sym, subst, List, [], ◌∷◌, ◌++◌, take, drop, set, get_or, arith, length, ℤ, ◌-◌, vec_len}
 use Rattle.hs_base.specs.declared.net.Bound.{Bound}
 use Rattle.hs_base.specs.Schedule.{time_of, Meets, HasNoSchedule}
 use Rattle.stn_distance.specs.Ranges.{IsInRange}
-use Rattle.stn_distance.specs.Cycles.{IsNegativeCycle}
+use Rattle.hs_base.specs.Cycles.{IsNegativeCycle}
 use Rattle.stn_distance.specs.Broken.{IfCycle}
+use Rattle.stn_trail.specs.declared.part.Part.TheVariants.{Added}
 use Rattle.stn_trail.specs.declared.part.Step.{Step}
 use Rattle.stn_trail.specs.Rows.{row_at, AreRowsOf}
 use Rattle.stn_trail.specs.Covered.{AreCovered}
 use Rattle.stn_trail.specs.Held.{Held, points_of, bounds_of, added, IsKept}
 use Rattle.stn_trail.specs.History.{parts_of}
-use Rattle.stn_trail.proofs.TrailLemmas.{MeetsList-now, times_refused}
+use Rattle.stn_trail.proofs.TrailLemmas.{MeetsList-now, points_push}
 use Rattle.stn_trail.proofs.AddingLemmas.{IsAdding, IsAdding-pushed, added_is, range_of, rows_of, covered_of, last_of, origin_of, steps_back, times_back, row_back, trail_added, trail_refused}
 use Rattle.stn_trail.proofs.trail.Trail.add.Goals as goal
 
@@ -57,8 +58,10 @@ returns-in-Err-settled-clause-err c =
     let a = IsAdding-pushed t.first t.count t.steps.items t.rows.items t.times.moves.items t.times.ticks.items c.args.bound c.args.self.now c.push.new.self.items _ _ _ c.self.invariant c.self.view_is c.requires
     (c.in_ok-push.ensures.items) (omega arith) c.index_mut.ensures.value c.in_default.ensures.ok in
     let more = c.push.new.self.ok.0 in
-    rw (steps_back t.first t.count t.steps.items t.rows.items t.times.moves.items t.times.ticks.items c.args.bound c.push.new.self.items _ a c.pop-in-Err-settled-2.new.self.items (c.pop-in-Err-settled-2.ensures.rest ∙ ap (λ (n : ℕ). take (n - 1) c.push.new.self.items) more),
-      times_back t.first t.count t.steps.items t.rows.items t.times.moves.items t.times.ticks.items c.args.bound c.push.new.self.items _ a _ _ c.settle-settled.new.times.moves.items c.settle-settled.new.times.ticks.items c.rewind.new.self.ticks.items c.settle-settled.ensures.past (omega arith) (omega arith) c.rewind.ensures.now)
+    rw (
+      steps_back t.first t.count t.steps.items t.rows.items t.times.moves.items t.times.ticks.items c.args.bound c.push.new.self.items _ a c.pop-in-Err-settled-2.new.self.items (c.pop-in-Err-settled-2.ensures.rest ∙ ap (λ (n : ℕ). take (n - 1) c.push.new.self.items) more),
+      times_back t.first t.count t.steps.items t.rows.items t.times.moves.items t.times.ticks.items c.args.bound c.push.new.self.items _ a _ _ c.settle-settled.new.times.moves.items c.settle-settled.new.times.ticks.items c.rewind.new.self.ticks.items c.settle-settled.ensures.past (omega arith) (omega arith) c.rewind.ensures.now,
+    )
     c.self.view_is
 
 pub returns-in-Err-settled-clause-cycle : goal.returns-in-Err-settled-clause-cycle
@@ -92,3 +95,8 @@ returns-clause-kept c =
     let sized = t.times.ticks.ok.0 in let sized' = c.settle-settled.new.times.ticks.ok.0 in let size = c.settle-settled.ensures.times in
     MeetsList-now t.first t.count c.push.new.self.items _ c.settle-settled.new.times.moves.items c.settle-settled.new.times.ticks.items (trail_added t.first t.count t.steps.items t.rows.items t.times.moves.items t.times.ticks.items c.args.bound c.push.new.self.items _ a _ c.settle-settled.new.times.moves.items c.settle-settled.new.times.ticks.items c.settle-settled.ensures.past (omega arith) (omega arith)
     (subst (λ (ss : List Step). Meets (added (parts_of ss)) (time_of c.settle-settled.new.times.ticks.items)) c.deref.ensures.value c.in_default-settled.ensures.schedule))
+
+pub returns-clause-points : goal.returns-clause-points
+returns-clause-points c =
+    let t = c.self.inside in
+    points_push t.first t.steps.items c.push.new.self.items _ (Added c.args.bound) c.in_ok-push.ensures.items refl ∙ (omega arith) ∙ ap points_of c.self.view_is
