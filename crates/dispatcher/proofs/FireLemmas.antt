@@ -218,8 +218,7 @@ module _ (s : State) (law : IsLawful s) (w : Windows) (places : List Place) (kno
             let now : Some n ≡ Some t = sym (own_now d) ∙ ap (λ z. group_time (times_in (set s.times x (Some n))) (get_or s.net.groups z d)) (sym same) ∙ is in
             let v : n ≡ t = cc in
             let sum : n ≡ t +ℤ pos 0 = omega (arith, ints, v) in
-            let me_zero : member x p.offset ≡ member x (pos 0) = ap (member x) (offset_zero d (unset d)) in
-            (
+            let me_zero : member x p.offset ≡ member x (pos 0) = ap (member x) (offset_zero d (unset d)) in (
               pos 0,
               rw here (subst (λ z. Contains (stands (get_or s.net.groups z d)) (member x (pos 0))) (sym same) (subst (λ m. Contains (stands (get_or s.net.groups p.group d)) m) me_zero (me_in d))),
               rw here (ap (λ z. z x) at_next ∙ put_here at x n ∙ ap Some sum),

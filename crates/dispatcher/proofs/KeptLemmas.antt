@@ -169,25 +169,25 @@ module _ (s : State) (law : IsLawful s) (w : Windows) (places : List Place) (unt
               omega (arith, ints, later.windows g ig unset, ap (high_of w) place, r.3)
         ],
         (
-        let x : ℕ = l.u_among.0 in
-        let ix : x < points s = omega (arith, l.u_among.1, waits.points) in
-        let p : Place = place_at places x in
-        let stand = are.each x ix in
-        let d : Group = record { leader = record { 0 = 0 }; members = [] } in
-        let g : Group = get_or s.net.groups p.group d in
-        let ig : Contains s.net.groups g = Contains-get_or s.net.groups p.group d stand.within in
-        let here : get_or until x u ≡ u = l.u_among.2 in
-        let is = waits.each x u ix in
-        let time_is = time_of_group s.net s.times at w by.are by.by p.group d stand.within in
-        elim (cases_Option (at x)) [
-          | inr done ↦ let v : get_or until x u ≡ NEVER = is ∙ rw done.1 refl in omega (arith, ints, v, here, law.last)
-          | inl none ↦ elim (cases_Option (time_of w p.group)) [
-            | inl unset ↦ let v : get_or until x u ≡ NEVER = is ∙ rw (none, unset) refl in omega (arith, ints, v, here, law.last)
-            | inr some ↦
-                let v : get_or until x u ≡ some.0 +ℤ p.offset = is ∙ rw (none, some.1) refl in
-                omega (arith, ints, v, here, later.points g some.0 (member x p.offset) ig (sym time_is ∙ some.1) (stand.stands d) none)
-          ]
-        ]),
+            let x : ℕ = l.u_among.0 in
+            let ix : x < points s = omega (arith, l.u_among.1, waits.points) in
+            let p : Place = place_at places x in
+            let stand = are.each x ix in
+            let d : Group = record { leader = record { 0 = 0 }; members = [] } in
+            let g : Group = get_or s.net.groups p.group d in
+            let ig : Contains s.net.groups g = Contains-get_or s.net.groups p.group d stand.within in
+            let here : get_or until x u ≡ u = l.u_among.2 in
+            let is = waits.each x u ix in
+            let time_is = time_of_group s.net s.times at w by.are by.by p.group d stand.within in
+            elim (cases_Option (at x)) [
+              | inr done ↦ let v : get_or until x u ≡ NEVER = is ∙ rw done.1 refl in omega (arith, ints, v, here, law.last)
+              | inl none ↦ elim (cases_Option (time_of w p.group)) [
+                | inl unset ↦ let v : get_or until x u ≡ NEVER = is ∙ rw (none, unset) refl in omega (arith, ints, v, here, law.last)
+                | inr some ↦
+                    let v : get_or until x u ≡ some.0 +ℤ p.offset = is ∙ rw (none, some.1) refl in
+                    omega (arith, ints, v, here, later.points g some.0 (member x p.offset) ig (sym time_is ∙ some.1) (stand.stands d) none)
+              ]
+            ]),
       )
 
 -- a tick that may be taken stays within LAST, where a point is open

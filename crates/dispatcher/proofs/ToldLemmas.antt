@@ -57,8 +57,7 @@ module _ (c : ℕ) (net : Net) (is : IsReducedOf c (spread net) net) (at : Times
   times_within x t e =
       let f = now.fits.meets in
       let ix = now.within x t e in
-      let s = now.fits.past x t e in
-      (
+      let s = now.fits.past x t e in (
         omega (arith, ints, s, f.origin, (is.tight.after_origin x ix).holds now.some f),
         omega (arith, ints, s, f.origin, (is.tight.before_last x ix).holds now.some f),
       )

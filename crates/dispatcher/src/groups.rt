@@ -54,7 +54,13 @@ fn told_by_group(group: &Group, times: &[Option<i64>]) -> Option<Told>
 
 /// Sets the group of that number by its executed points, and tells one of these. The leader stands
 /// for a group that isn't set.
-fn set_group(net: &Net, i: usize, places: &[Place], times: &[Option<i64>], windows: &mut Windows) -> PointId
+fn set_group(
+    net: &Net,
+    i: usize,
+    places: &[Place],
+    times: &[Option<i64>],
+    windows: &mut Windows,
+) -> PointId
     requires reduced { IsReducedOf (length times.now) (spread net.now) net.now }
     requires reached { (n : ℤ) × IsReached (length times.now) net.now (times_in times.now) n }
     requires places { ArePlaces (length times.now) net.now places.now }
@@ -77,7 +83,13 @@ fn set_group(net: &Net, i: usize, places: &[Place], times: &[Option<i64>], windo
 }
 
 /// Sets the groups that have executed points, and tells one of these for each.
-pub fn set_groups(alloc: Global, net: &Net, places: &[Place], times: &[Option<i64>], windows: &mut Windows) -> Result<Vec<PointId>, Memory>
+pub fn set_groups(
+    alloc: Global,
+    net: &Net,
+    places: &[Place],
+    times: &[Option<i64>],
+    windows: &mut Windows,
+) -> Result<Vec<PointId>, Memory>
     requires reduced { IsReducedOf (length times.now) (spread net.now) net.now }
     requires reached { (n : ℤ) × IsReached (length times.now) net.now (times_in times.now) n }
     requires places { ArePlaces (length times.now) net.now places.now }

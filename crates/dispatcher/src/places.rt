@@ -49,7 +49,10 @@ pub fn places(alloc: Global, count: usize, net: &Net) -> Result<Vec<Place>, Memo
     requires { IsReducedOf count (spread net.now) net.now }
     ensures { IfOk result (λ p. ArePlaces count net.now p.items) }
 {
-    let mut places = vec![in alloc; Place { group: 0, offset: 0 }; count]?;
+    let mut places = vec![in alloc; Place {
+        group: 0,
+        offset: 0
+    }; count]?;
     place_all(net, places.as_mut_slice());
     Ok(places)
 }

@@ -6,7 +6,11 @@ use hs_base::{Memory, Time};
 use std::alloc::Global;
 
 /// The time of each of `count` points, where it is listed.
-pub fn times_by_point(alloc: Global, count: usize, times: &[Time]) -> Result<Vec<Option<i64>>, Memory>
+pub fn times_by_point(
+    alloc: Global,
+    count: usize,
+    times: &[Time],
+) -> Result<Vec<Option<i64>>, Memory>
     requires once { EachOnce times.now }
     requires within { (x : ℕ) (t : ℤ) → time_at times.now x ≡ Some t → x < count }
     ensures { IfOk result (λ by. by.items ≡ map (time_at times.now) (numbers_from 0 count)) }

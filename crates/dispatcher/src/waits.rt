@@ -47,7 +47,12 @@ fn wait(own: Option<i64>, group: Option<i64>, offset: i64) -> i64
 }
 
 /// Until when each point can wait.
-pub fn waits_of(alloc: Global, windows: &Windows, places: &[Place], times: &[Option<i64>]) -> Result<Minima, Memory>
+pub fn waits_of(
+    alloc: Global,
+    windows: &Windows,
+    places: &[Place],
+    times: &[Option<i64>],
+) -> Result<Minima, Memory>
     requires points { length places.now ≡ length times.now }
     requires groups { (x : ℕ) → x < length times.now → (place_at places.now x).group < length (times_of windows.now) }
     requires offsets { (x : ℕ) → x < length times.now → IsWithin (place_at places.now x).offset }

@@ -140,7 +140,12 @@ impl Windows {
         let group = group as usize;
         self.times[group] = Some(at);
         self.high.set(group, NEVER);
-        lower(self.after.of(group), self.times.as_slice(), at, &mut self.high);
+        lower(
+            self.after.of(group),
+            self.times.as_slice(),
+            at,
+            &mut self.high,
+        );
         raise(self.before.of(group), at, self.low.as_mut_slice());
         release(self.before.of(group), self.waits.as_mut_slice());
     }

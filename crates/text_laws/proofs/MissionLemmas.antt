@@ -198,8 +198,8 @@ device_reads v name lasts =
     then_any (Keyword "device") _ (keyword "device") _ device_stops (keyword_reads "device") (λ _.
     then_reads (NextText v) _ (next_at v) _ next_stops device_stops (next_reads v)
     (λ next'. then_reads (ScriptText v) _ (script_at v) _ script_stops device_stops (script_reads v)
-      (λ script. then_reads (Many (AnswersText v)) _ (many (is_word (codes "answers")) (answers_at v)) _ answers_stops device_stops (all_answers_reads v) (λ answers. nothing _ _) (λ answers. leads_yields _ _ _ (covers_test _ _ refl)))
-      (λ script. answers_lead v _ script_stops refl (covers_test _ _ refl)))
+    (λ script. then_reads (Many (AnswersText v)) _ (many (is_word (codes "answers")) (answers_at v)) _ answers_stops device_stops (all_answers_reads v) (λ answers. nothing _ _) (λ answers. leads_yields _ _ _ (covers_test _ _ refl)))
+    (λ script. answers_lead v _ script_stops refl (covers_test _ _ refl)))
     (λ next'. leads_then (ScriptText v) _ device_stops next_stops next_stops (script_leads v) (λ script. answers_lead v _ next_stops refl (covers_test _ _ refl)))))
 
 next_leads : (v : ℕ) → Leads (NextText v) (kw "by" ∷ []) (kw "by" ∷ [])
@@ -282,7 +282,6 @@ Relation3 = After "meets" (Yields Meets) ∣ Relation4
 abbrev Relation2 : Language Relation
 Relation2 = After "after" (OneRange AfterEnd) ∣ Relation3
 
-
 starts8 : StartsIn Relation8 (kw "contains" ∷ kw "contained_by" ∷ [])
 starts8 = starts_either _ _ _ _ (starts_after "contains" _) (starts_after "contained_by" _)
 
@@ -332,8 +331,8 @@ pub further_reads : (v : ℕ) → Reads (FurtherChoices v) (further_at v) (kw "o
 unfolding further_at
 further_reads v =
     elim (nat_eq v 1) as (λ b. Reads (cond b (Yields []) (Many (After "or" (ChoiceText v)))) (cond b (yields []) (many (is_word (codes "or")) (after "or" (choice_at v)))) (kw "or" ∷ [])) [
-    | true ↦ nothing [] (kw "or" ∷ [])
-    | false ↦ more_choices_reads v
+      | true ↦ nothing [] (kw "or" ∷ [])
+      | false ↦ more_choices_reads v
     ]
 
 pub choices_reads : (v : ℕ) → Reads (ChoicesText v) (choices_at v) (kw "or" ∷ [])
@@ -413,10 +412,10 @@ unfolding clauses_at
 clauses_reads v =
     then_reads (Several (VarText v)) _ (several "var" (var_at v)) _ vars_stops [] (several_reads "var" (VarText v) (var_at v) var_stops (begins_var v) (var_reads v) refl)
     (λ vars. then_reads (Many (NeedText v)) _ (many (is_word (codes "need")) (need_at v)) _ needs_stops [] (many_reads (is_word (codes "need")) (kw "need") (NeedText v) (need_at v) (kw "or" ∷ []) (need_items v))
-      (λ needs. then_reads (Several (HorizonText v)) _ (several "horizon" (horizon_at v)) _ horizons_stops [] (several_reads "horizon" (HorizonText v) (horizon_at v) horizon_stops (begins_horizon v) (horizon_reads v) refl)
-        (λ horizons. then_any (Keyword "end") _ (keyword "end") _ [] (keyword_reads "end") (λ _. yields_reads _))
-        (λ horizons. leads_begin _ (kw "end") [] horizons_stops (begins_then (Keyword "end") _ (kw "end") (begins_keyword "end")) refl))
-      (λ needs. leads_begin _ (kw "horizon") [] needs_stops (begins_horizons v _) refl))
+    (λ needs. then_reads (Several (HorizonText v)) _ (several "horizon" (horizon_at v)) _ horizons_stops [] (several_reads "horizon" (HorizonText v) (horizon_at v) horizon_stops (begins_horizon v) (horizon_reads v) refl)
+    (λ horizons. then_any (Keyword "end") _ (keyword "end") _ [] (keyword_reads "end") (λ _. yields_reads _))
+    (λ horizons. leads_begin _ (kw "end") [] horizons_stops (begins_then (Keyword "end") _ (kw "end") (begins_keyword "end")) refl))
+    (λ needs. leads_begin _ (kw "horizon") [] needs_stops (begins_horizons v _) refl))
     (λ vars. leads_then (Many (NeedText v)) _ [] vars_stops vars_stops (leads_many (NeedText v) (kw "need") vars_stops vars_stops (begins_need v) refl (covers_test _ _ refl)) (λ needs. leads_begin _ (kw "horizon") [] vars_stops (begins_horizons v _) refl))
 
 pub mission_reads : Reads MissionText mission_at []

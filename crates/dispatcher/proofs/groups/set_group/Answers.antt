@@ -68,7 +68,7 @@ returns-in-Some-clause-own c =
     let number = read_number (length c.args.times.now) c.args.net.now c.requires.reduced c.args.places.now c.requires.places c.args.i g c.requires.group c.index-group.ensures in
     let times : times_of c.set.new.self ≡ set (times_of c.args.windows.now) c.args.i (Some t) = c.set.ensures.times ∙ rw (number, to_z-of_z w64 t f) refl in
     λ d. ap (λ z. get_or z c.args.i None) times ∙ get_or-set_same (times_of c.args.windows.now) c.args.i (Some t) None (omega (arith, c.requires.group, c.requires.windows.groups)) ∙ sym c.in-Some.ensures.time
-        ∙ ap (group_time (times_in c.args.times.now)) (c.index-group.ensures ∙ get_or_default c.args.net.now.groups c.args.i g d c.requires.group)
+    ∙ ap (group_time (times_in c.args.times.now)) (c.index-group.ensures ∙ get_or_default c.args.net.now.groups c.args.i g d c.requires.group)
 
 pub returns-in-Some-clause-others : goal.returns-in-Some-clause-others
 returns-in-Some-clause-others c =
