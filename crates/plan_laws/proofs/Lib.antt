@@ -5,3 +5,6 @@ pub mod RunLemmas
 pub mod ChainLemmas
 pub mod LengthLemmas
 pub mod SpanLemmas
+pub mod GoalLemmas
+pub mod NeedLemmas
+pub mod LegalLemmas

@@ -16,6 +16,7 @@ pub use schedules::{
     tight_weights_keep_the_triangle,
 };
 pub use timelines::{
-    a_schedule_keeps_lengths_and_times, a_schedule_makes_linked_timelines,
+    a_schedule_keeps_lengths_and_times, a_schedule_makes_legal_timelines,
+    a_schedule_makes_linked_timelines,
     a_schedule_spans_the_horizons,
 };
