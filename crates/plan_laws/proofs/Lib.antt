@@ -8,3 +8,4 @@ pub mod SpanLemmas
 pub mod GoalLemmas
 pub mod NeedLemmas
 pub mod LegalLemmas
+pub mod FaultLemmas

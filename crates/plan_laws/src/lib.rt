@@ -1,11 +1,15 @@
 //! Laws of plans and of the schedule machine, over the definitions alone.
 #![tactic(auto)]
 
+mod faults;
 mod runs;
 mod samples;
 mod schedules;
 mod timelines;
 
+pub use faults::{
+    a_fault_excludes_a_checked_plan, a_negative_cycle_has_no_schedule, faults_are_of_one_number,
+};
 pub use runs::{each_point_is_executed_once, some_schedule_fits};
 pub use samples::{
     the_camera_plan_has_a_schedule, the_camera_run_has_its_state, the_smallest_plan_has_a_schedule,
