@@ -1,8 +1,8 @@
 -- A fault is of one number, and excludes a checked plan.
-use Rattle.std.proofs.Common.{◌≡◌, ◌≢◌, ◌⊎◌, ℕ, zero, suc, ◌+◌, ◌<◌, ◌≤◌, pos, List, [], ◌∷◌, ◌++◌, length, refl, sym, ap, ◌∙◌, subst, arith, append_assoc, append-nil, inl, inr}
+use Rattle.std.proofs.Common.{◌≡◌, ◌≢◌, ℕ, zero, suc, ◌<◌, List, [], ◌∷◌, ◌++◌, refl, sym, ap, ◌∙◌, subst, arith, append_assoc, append-nil, inl, inr}
 use Rattle.std.proofs.lemmas.Int.{ints}
-use Rattle.std.proofs.lemmas.Bool.{cases_lt, cases_eq}
-use Rattle.std.specs.Prelude.{All, Contains, ℤ, ◌-ℤ◌, ◌≤ℤ◌, ◌<ℤ◌}
+use Rattle.std.proofs.lemmas.Bool.{cases_lt}
+use Rattle.std.specs.Prelude.{Contains, ◌-ℤ◌, ◌≤ℤ◌}
 use Rattle.std.specs.List.{AllByRecursion}
 use Rattle.std.proofs.lemmas.List.Elements.{recursion_from_All}
 use Rattle.hs_base.specs.declared.net.Bound.{Bound}
@@ -15,9 +15,9 @@ use Rattle.hs_base.specs.Walks.{EachAfter}
 use Rattle.hs_base.specs.Schedule.{Schedule, Meets, Holds}
 use Rattle.hs_base.specs.Cycles.{Leads, total, IsNegativeCycle}
 use Rattle.hs_base.specs.Points.{tokens_of}
-use Rattle.hs_base.specs.Bounds.{bounds_of, IsScheduleOf}
-use Rattle.hs_base.specs.Checked.{joined, HasTokenOf, KeepsBase, KeepsLimits, KeepsOrderAt, KeepsOrder, KeepsFixedAt, KeepsFixed, KeepsSupportAt, KeepsSupports, KeepsNeeds, KeepsGoals, KeepsRules, Checked}
-use Rattle.hs_base.specs.Faults.{IsFirstBreak, IsFirstBreakAt, IsMissingFirst, IsMisplaced, IsSinceWrong, IsUnserved, IsFirstUnserved, IsFirstGoal, IsPassed, BeforeLimit, BeforeOrder, BeforeFixed, BeforeSupport, BeforeNeed, BeforeGoal, BeforeCycle, IsFault}
+use Rattle.hs_base.specs.Bounds.{bounds_of}
+use Rattle.hs_base.specs.Checked.{joined, HasTokenOf, KeepsOrderAt, KeepsOrder, KeepsFixedAt, KeepsSupportAt, KeepsRules, Checked}
+use Rattle.hs_base.specs.Faults.{IsFirstBreak, IsFirstBreakAt, IsMissingFirst, IsPassed, BeforeLimit, BeforeOrder, BeforeFixed, BeforeSupport, BeforeNeed, BeforeGoal, BeforeCycle, IsFault}
 use Rattle.base_laws.proofs.ListLemmas.{each_at, EachAfter-push}
 use Rattle.base_laws.proofs.PointLemmas.{tokens-push}
 use Rattle.plan_laws.proofs.ChainLemmas.{contained_at}

@@ -1,5 +1,5 @@
 -- In a schedule of a checked plan every goal has its token in time.
-use Rattle.std.proofs.Common.{◌≡◌, ℕ, zero, suc, ◌+◌, ◌-◌, ◌<◌, ◌≤◌, pos, List, [], ◌∷◌, ◌++◌, length, take, get_or, Option, Some, None, refl, sym, ap, ◌∙◌, subst, arith, inl, inr, length-append}
+use Rattle.std.proofs.Common.{◌≡◌, ℕ, suc, ◌+◌, ◌-◌, ◌<◌, pos, List, [], ◌∷◌, ◌++◌, length, take, get_or, Some, refl, sym, ap, ◌∙◌, subst, arith, length-append}
 use Rattle.std.proofs.lemmas.Int.{ints}
 use Rattle.std.proofs.lemmas.List.{take_more}
 use Rattle.std.proofs.lemmas.Option.{slice_get_within, slice_get-get_or}
@@ -60,10 +60,9 @@ goals_new es s (g ∷ gs) (t ∷ ts) at entry h =
     let rest = each_split (Holds s) (apart (start es t) 0 g.start ++ apart (stop es t) 0 g.stop) (goal_bounds es gs ts) h in
     let ends = each_split (Holds s) (apart (start es t) 0 g.start) (apart (stop es t) 0 g.stop) rest.0 in
     let from = in_range s (start es t) 0 g.start ends.0 in
-    let to = in_range s (stop es t) 0 g.stop ends.1 in
-    (
+    let to = in_range s (stop es t) 0 g.stop ends.1 in (
       record { token = t; is = entry 0; start = (omega (arith, ints, from.0, at), omega (arith, ints, from.1, at)); stop = (omega (arith, ints, to.0, at), omega (arith, ints, to.1, at)) },
-      goals_new es s gs ts at (λ i. entry (suc i)) rest.1
+      goals_new es s gs ts at (λ i. entry (suc i)) rest.1,
     )
 
 -- the goals of all planned horizons

@@ -1,14 +1,11 @@
 -- Each schedule of a checked plan makes its timelines legal.
-use Rattle.std.proofs.Common.{◌≡◌, ◌⊎◌, ℕ, zero, suc, ◌+◌, ◌-◌, ◌<◌, ◌≤◌, pos, Bool, true, nat_eq, ◌&&◌, List, [], ◌∷◌, ◌++◌, length, take, get_or, Option, Some, None, refl, sym, ap, ◌∙◌, subst, arith, append_assoc, inl, inr}
+use Rattle.std.proofs.Common.{◌≡◌, ◌⊎◌, ℕ, zero, suc, ◌+◌, ◌-◌, ◌<◌, true, nat_eq, List, [], ◌∷◌, length, take, get_or, Some, refl, sym, ap, ◌∙◌, subst, arith, inl, inr}
 use Rattle.std.proofs.lemmas.Int.{ints}
 use Rattle.std.proofs.lemmas.Bool.{eqb-true, eq-eqb, and_parts}
-use Rattle.std.proofs.lemmas.Bool.Decides.{nat_tests}
-use Rattle.std.proofs.lemmas.Grind.{common_steps}
 use Rattle.std.proofs.lemmas.Option.{slice_get_within, slice_get-map, slice_get-get_or, get_or_from_slice_get}
 use Rattle.std.proofs.lemmas.List.FromFn.{length-map-range_with_len}
-use Rattle.std.specs.Prelude.{slice_get, Contains, option_map, map, ◌-ℤ◌, ◌≤ℤ◌, ◌<ℤ◌}
+use Rattle.std.specs.Prelude.{slice_get, Contains, option_map, ◌<ℤ◌}
 use Rattle.std.specs.List.{AllByRecursion}
-use Rattle.hs_base.specs.declared.limits.TheConstants.{LAST}
 use Rattle.hs_base.specs.declared.mission.Kind.{Kind}
 use Rattle.hs_base.specs.declared.mission.Value.{Value}
 use Rattle.hs_base.specs.declared.mission.Var.{Var}
@@ -20,22 +17,21 @@ use Rattle.hs_base.specs.declared.mission.Mission.{Mission}
 use Rattle.hs_base.specs.declared.plan.TokenRef.{TokenRef}
 use Rattle.hs_base.specs.declared.plan.Support.{Support}
 use Rattle.hs_base.specs.declared.plan.Extension.{Extension}
-use Rattle.hs_base.specs.Walks.{EachAfter}
 use Rattle.hs_base.specs.Schedule.{Schedule, numbers_from}
 use Rattle.hs_base.specs.Ranges.{InRange}
-use Rattle.hs_base.specs.Points.{ending, tokens_of, timeline_of, points_of, count, place_of, start_at, start, stop, token_at, value_of}
-use Rattle.hs_base.specs.Needs.{same_kind, needs_of, need_of, need_at, choice_by, is_deferrable}
+use Rattle.hs_base.specs.Points.{ending, tokens_of, timeline_of, points_of, place_of, start_at, start, stop, value_of}
+use Rattle.hs_base.specs.Needs.{same_kind, need_of, need_at, choice_by, is_deferrable}
 use Rattle.hs_base.specs.Bounds.{IsScheduleOf}
 use Rattle.hs_base.specs.Timelines.{Token, IsTimeline, LastsRightly, Spans, Relates, StandsAt, IsLastPlace, MeetsGoal, MeetsNeed, Legal, tokens_in, timelines}
-use Rattle.hs_base.specs.Missions.{IsVar, IsChoice, IsNeed, IsGoal, IsHorizon, IsMission}
-use Rattle.hs_base.specs.Checked.{joined, supports_of, IsServed, KeepsNeeds, KeepsRules, MayStandBehind, Checked}
-use Rattle.base_laws.proofs.ListLemmas.{each_at, each_weaker, slice_get-middle, snoc_induction}
+use Rattle.hs_base.specs.Missions.{IsVar, IsChoice, IsNeed, IsGoal, IsHorizon}
+use Rattle.hs_base.specs.Checked.{supports_of, KeepsNeeds, KeepsRules, Checked}
+use Rattle.base_laws.proofs.ListLemmas.{each_at, snoc_induction}
 use Rattle.base_laws.proofs.PointLemmas.{named, of_variable}
 use Rattle.plan_laws.proofs.ChainLemmas.{Chained, chained, has_tokens, timeline_is, value_there, contained_at}
 use Rattle.plan_laws.proofs.LengthLemmas.{lengths_in, points_in, number_at}
 use Rattle.plan_laws.proofs.SpanLemmas.{starts_in, ends_in}
 use Rattle.plan_laws.proofs.GoalLemmas.{GoalAt, goals_at}
-use Rattle.plan_laws.proofs.NeedLemmas.{ServedAt, all_served, relates, need_found, found_passes, found_at, filter_has}
+use Rattle.plan_laws.proofs.NeedLemmas.{ServedAt, all_served, relates, found_passes, found_at, filter_has}
 
 -- token i of variable v in time
 abbrev pub in_time : List Extension → Schedule → ℕ → ℕ → Kind → Token
@@ -164,6 +160,7 @@ module _ (m : Mission) (es : List Extension) (s : Schedule) (c : Checked m es) (
               let r = tokens_in-of es s v 0 (timeline_of (tokens_of es) v) i x here in
               let e : 0 + i ≡ i = omega arith in
               subst (λ (t : Token). t.from <ℤ g.tick) (sym (r.2 ∙ ap (λ j. in_time es s v j r.0) e)) ((starts_in m s es c.mission h).each g v i is (slice_get_within (timeline_of (tokens_of es) v) i r.0 r.1))
+
           to : v < length m.vars → (i : ℕ) (last : Token) → slice_get (tokens_in es s v 0 (timeline_of (tokens_of es) v)) i ≡ Some last → suc i ≡ length (tokens_in es s v 0 (timeline_of (tokens_of es) v)) → g.tick <ℤ last.to
           to below i last here size =
               let r = tokens_in-of es s v 0 (timeline_of (tokens_of es) v) i last here in
@@ -180,13 +177,12 @@ module _ (m : Mission) (es : List Extension) (s : Schedule) (c : Checked m es) (
   goal_met g is q =
       let below = slice_get_within m.vars g.kind.sv.0 is.kind.0 is.kind.1 in
       let same = of_variable (tokens_of es) q.token.sv.0 q.token.place g.kind q.is in
-      let at : slice_get (timeline_of (tokens_of es) g.kind.sv.0) q.token.place ≡ Some g.kind = subst (λ (w : ℕ). slice_get (timeline_of (tokens_of es) w) q.token.place ≡ Some g.kind) (sym same) q.is in
-      (
+      let at : slice_get (timeline_of (tokens_of es) g.kind.sv.0) q.token.place ≡ Some g.kind = subst (λ (w : ℕ). slice_get (timeline_of (tokens_of es) w) q.token.place ≡ Some g.kind) (sym same) q.is in (
         q.token.place,
         in_time es s g.kind.sv.0 q.token.place g.kind,
         stands g.kind g.kind q.token.place below at refl,
         subst (λ (w : ℕ). InRange g.start (s (start_at es w q.token.place))) (sym same) q.start,
-        subst (λ (w : ℕ). InRange g.stop (s (place_of (ending w q.token.place) (points_of es)))) (sym same) q.stop
+        subst (λ (w : ℕ). InRange g.stop (s (place_of (ending w q.token.place) (points_of es)))) (sym same) q.stop,
       )
 
   goals : AllByRecursion (λ (g : Horizon). AllByRecursion (MeetsGoal ts) g.goals) (take (length es) m.horizons)

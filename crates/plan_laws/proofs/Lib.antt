@@ -9,3 +9,4 @@ pub mod GoalLemmas
 pub mod NeedLemmas
 pub mod LegalLemmas
 pub mod FaultLemmas
+pub mod FitLemmas

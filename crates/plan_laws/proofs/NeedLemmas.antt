@@ -1,9 +1,9 @@
 -- In a schedule of a checked plan every support keeps its relation.
-use Rattle.std.proofs.Common.{◌≡◌, ℕ, zero, suc, ◌+◌, ◌<◌, pos, Bool, true, false, List, [], ◌∷◌, ◌++◌, length, Option, Some, None, refl, sym, ap, ◌∙◌, subst, arith, append-nil, inl, inr}
+use Rattle.std.proofs.Common.{◌≡◌, ℕ, zero, suc, Bool, true, List, [], ◌∷◌, ◌++◌, Option, Some, None, refl, sym, ap, ◌∙◌, subst, arith, append-nil, inl, inr}
 use Rattle.std.proofs.lemmas.Int.{ints}
 use Rattle.std.proofs.lemmas.Bool.{cases_Bool}
 use Rattle.std.proofs.lemmas.Grind.{flat_map-append}
-use Rattle.std.specs.Prelude.{slice_get, find, filter, Contains, ℤ}
+use Rattle.std.specs.Prelude.{slice_get, find, filter}
 use Rattle.std.specs.List.{AllByRecursion}
 use Rattle.hs_base.specs.declared.relation.Relation.{Relation}
 use Rattle.hs_base.specs.declared.relation.Relation.TheVariants.{Before, After, Meets as MeetsStart, MetBy, Starts, Ends, Equals, Contains as Encloses, ContainedBy}
@@ -18,7 +18,7 @@ use Rattle.hs_base.specs.Walks.{EachAfter}
 use Rattle.hs_base.specs.Schedule.{Schedule, Meets, Holds}
 use Rattle.hs_base.specs.Points.{start, stop, token_at}
 use Rattle.hs_base.specs.Needs.{needs_of, need_of, need_at, choice_by}
-use Rattle.hs_base.specs.Bounds.{apart, together, on_some, relation_bounds, new_bounds, IsScheduleOf, support_bounds}
+use Rattle.hs_base.specs.Bounds.{on_some, relation_bounds, new_bounds, IsScheduleOf, support_bounds}
 use Rattle.hs_base.specs.Timelines.{Relates}
 use Rattle.hs_base.specs.Checked.{KeepsRules, KeepsSupportAt, supports_of}
 use Rattle.base_laws.proofs.ListLemmas.{each_split, each_both, each_weaker, snoc_induction, EachAfter-both}
@@ -82,10 +82,9 @@ served_new m s before e front (r ∷ rs) rules h =
     let parts = each_split (Holds s) _ (support_bounds m es rs) h in
     let with_need = subst (λ (o : Option Need). AllByRecursion (Holds s) (on_some o (λ n. on_some (token_at es r.by) (λ k. on_some (choice_by n k) (λ (c : Choice). relation_bounds c.relation (start es r.token) (stop es r.token) (start es r.by) (stop es r.by)))))) g.has_need parts.0 in
     let with_token = subst (λ (o : Option Kind). AllByRecursion (Holds s) (on_some o (λ k. on_some (choice_by g.need k) (λ (c : Choice). relation_bounds c.relation (start es r.token) (stop es r.token) (start es r.by) (stop es r.by))))) g.has_token with_need in
-    let with_choice = subst (λ (o : Option Choice). AllByRecursion (Holds s) (on_some o (λ (c : Choice). relation_bounds c.relation (start es r.token) (stop es r.token) (start es r.by) (stop es r.by)))) g.serves with_token in
-    (
+    let with_choice = subst (λ (o : Option Choice). AllByRecursion (Holds s) (on_some o (λ (c : Choice). relation_bounds c.relation (start es r.token) (stop es r.token) (start es r.by) (stop es r.by)))) g.serves with_token in (
       record { need = g.need; has_need = g.has_need; kind = g.kind; has_token = g.has_token; choice = g.choice; serves = g.serves; holds = with_choice },
-      served_new m s before e (front ++ r ∷ []) rs rules.1 parts.1
+      served_new m s before e (front ++ r ∷ []) rs rules.1 parts.1,
     )
 
 pub record AllServed (m : Mission) (s : Schedule) (es : List Extension) : Type 0 where

@@ -1,12 +1,14 @@
 //! Laws of plans and of the schedule machine, over the definitions alone.
 #![tactic(auto)]
 
+mod distances;
 mod faults;
 mod runs;
 mod samples;
 mod schedules;
 mod timelines;
 
+pub use distances::bounds_of_a_plan_are_fit_for_distances;
 pub use faults::{
     a_fault_excludes_a_checked_plan, a_negative_cycle_has_no_schedule, faults_are_of_one_number,
 };
@@ -21,6 +23,5 @@ pub use schedules::{
 };
 pub use timelines::{
     a_schedule_keeps_lengths_and_times, a_schedule_makes_legal_timelines,
-    a_schedule_makes_linked_timelines,
-    a_schedule_spans_the_horizons,
+    a_schedule_makes_linked_timelines, a_schedule_spans_the_horizons,
 };

@@ -8,20 +8,26 @@ returns c = record {
   vars_differ = search rules;
   vars = (search rules, (search rules, tt));
   few_needs = search rules;
-  needs = (record {
-    kind = (_, refl, search rules);
-    some_choices = search rules;
-    few_choices = search rules;
-    choices = (record { kind = (_, refl, search rules); other_variable = search rules; ranges = search rules }, tt);
-    kinds_differ = search rules;
-  }, tt);
+  needs = (
+    record {
+      kind = (_, refl, search rules);
+      some_choices = search rules;
+      few_choices = search rules;
+      choices = (record { kind = (_, refl, search rules); other_variable = search rules; ranges = search rules }, tt);
+      kinds_differ = search rules;
+    },
+    tt,
+  );
   some_horizons = search rules;
   few_horizons = search rules;
-  horizons = (record {
-    tick = search rules;
-    few_goals = search rules;
-    goals = (record { kind = (_, refl, search rules); start = search rules; stop = search rules }, tt);
-  }, tt);
+  horizons = (
+    record {
+      tick = search rules;
+      few_goals = search rules;
+      goals = (record { kind = (_, refl, search rules); start = search rules; stop = search rules }, tt);
+    },
+    tt,
+  );
   rising = search rules;
   done_first = search rules;
   words = search rules;
