@@ -118,3 +118,8 @@ slice_get-take (x ∷ xs) (suc i) (suc j) less = slice_get-take xs i j (omega ar
 -- of two elements of a list in order the earlier comes before the later
 pub in_order : {X : Type 0} (R : X → X → Type 0) (xs : List X) (i j : ℕ) (a b : X) → IsInOrder R xs → slice_get xs i ≡ Some a → slice_get xs j ≡ Some b → i < j → R a b
 in_order R xs i j a b h at to less = each_at (λ x. R x b) (take j xs) i a (each_after_at (λ before x. AllByRecursion (λ y. R y x) before) [] xs j b h to) (slice_get-take xs i j less ∙ at)
+
+-- what follows from what holds of each
+pub each_weaker : {X : Type 0} (P Q : X → Type 0) → ((x : X) → P x → Q x) → (xs : List X) → AllByRecursion P xs → AllByRecursion Q xs
+each_weaker P Q f [] h = tt
+each_weaker P Q f (x ∷ xs) h = (f x h.0, each_weaker P Q f xs h.1)

@@ -6,7 +6,6 @@ use Rattle.hs_base.specs.declared.range.Range.{Range}
 use Rattle.hs_base.specs.declared.relation.Relation.TheVariants.{ContainedBy}
 use Rattle.hs_base.specs.declared.mission.Kind.{Kind}
 use Rattle.hs_base.specs.declared.mission.Step.TheVariants.{Until}
-use Rattle.hs_base.specs.declared.mission.Said.{Said}
 use Rattle.hs_base.specs.declared.mission.Value.{Value}
 use Rattle.hs_base.specs.declared.mission.Mission.{Mission}
 use Rattle.hs_base.specs.declared.plan.TokenRef.{TokenRef}

@@ -1,13 +1,11 @@
 -- In a checked plan each value may stand where it does.
-use Rattle.std.proofs.Common.{◌≡◌, ℕ, zero, suc, ◌+◌, ◌<◌, ◌≤◌, pos, nat_eq, List, [], ◌∷◌, ◌++◌, length, take, Some, None, refl, sym, ap, ◌∙◌, subst, arith, append_assoc, append-nil, inl, inr, length-append}
+use Rattle.std.proofs.Common.{◌≡◌, ℕ, suc, ◌<◌, ◌≤◌, pos, nat_eq, List, [], ◌∷◌, ◌++◌, length, take, Some, refl, sym, ap, ◌∙◌, subst, arith, append_assoc, append-nil, inl, inr, length-append}
 use Rattle.std.proofs.lemmas.Bool.{cases_lt, cases_Bool, eqb-true}
-use Rattle.std.proofs.lemmas.List.{take-append-le, take_all, take_at}
+use Rattle.std.proofs.lemmas.List.{take-append-le, take_at}
 use Rattle.std.proofs.lemmas.Option.{slice_get_within, slice_get-get_or}
 use Rattle.std.specs.Prelude.{slice_get, Contains}
-use Rattle.std.specs.List.{AllByRecursion}
 use Rattle.hs_base.specs.declared.ids.ValId.{ValId}
 use Rattle.hs_base.specs.declared.mission.Kind.{Kind}
-use Rattle.hs_base.specs.declared.mission.Value.{Value}
 use Rattle.hs_base.specs.declared.mission.Var.{Var}
 use Rattle.hs_base.specs.declared.mission.Mission.{Mission}
 use Rattle.hs_base.specs.declared.plan.Extension.{Extension}
@@ -16,7 +14,7 @@ use Rattle.hs_base.specs.Schedule.{Schedule}
 use Rattle.hs_base.specs.Points.{tokens_of, timeline_of, start_at}
 use Rattle.hs_base.specs.Timelines.{MayFollow, Continues, IsTimeline, tokens_in}
 use Rattle.hs_base.specs.Missions.{IsValue, IsVar}
-use Rattle.hs_base.specs.Checked.{joined, MayStandBehind, HasTokenOf, KeepsOrderAt, KeepsRules}
+use Rattle.hs_base.specs.Checked.{MayStandBehind, HasTokenOf, KeepsOrderAt, KeepsRules}
 use Rattle.base_laws.proofs.ListLemmas.{each_at, slice_get-append_left, slice_get-middle, snoc_induction}
 use Rattle.base_laws.proofs.PointLemmas.{timeline-append, length-timeline_own, timeline_own, timeline_other, tokens-push}
 

@@ -1,16 +1,14 @@
 -- In a schedule of a plan each token lasts as long as its value may, and each point stands within 0 to LAST.
-use Rattle.std.proofs.Common.{◌≡◌, ℕ, zero, suc, ◌+◌, ◌-◌, ◌<◌, ◌≤◌, pos, List, [], ◌∷◌, ◌++◌, length, Option, Some, refl, sym, ap, ◌∙◌, subst, arith, append_assoc, inl, inr, length-append}
+use Rattle.std.proofs.Common.{◌≡◌, ℕ, zero, suc, ◌+◌, ◌-◌, ◌<◌, ◌≤◌, List, [], ◌∷◌, ◌++◌, length, Option, Some, sym, ap, ◌∙◌, subst, arith, inl, inr}
 use Rattle.std.proofs.lemmas.Int.{ints}
 use Rattle.std.proofs.lemmas.Bool.{cases_lt}
 use Rattle.std.proofs.lemmas.Option.{slice_get_within}
-use Rattle.std.specs.Prelude.{slice_get, ◌-ℤ◌, ◌≤ℤ◌, take}
+use Rattle.std.specs.Prelude.{slice_get, ◌-ℤ◌}
 use Rattle.std.specs.List.{AllByRecursion}
-use Rattle.hs_base.specs.declared.limits.TheConstants.{LAST}
 use Rattle.hs_base.specs.declared.range.Range.{Range}
 use Rattle.hs_base.specs.declared.net.Bound.{Bound}
 use Rattle.hs_base.specs.declared.mission.Kind.{Kind}
 use Rattle.hs_base.specs.declared.mission.Value.{Value}
-use Rattle.hs_base.specs.declared.mission.Var.{Var}
 use Rattle.hs_base.specs.declared.mission.Mission.{Mission}
 use Rattle.hs_base.specs.declared.plan.TokenRef.{TokenRef}
 use Rattle.hs_base.specs.declared.plan.Extension.{Extension}
@@ -18,9 +16,9 @@ use Rattle.hs_base.specs.Walks.{join_after, EachAfter}
 use Rattle.hs_base.specs.Schedule.{Schedule, Meets, Holds, numbers_from}
 use Rattle.hs_base.specs.Ranges.{InRange, whole}
 use Rattle.hs_base.specs.Points.{ending, tokens_of, timeline_of, refs_after, points_of, count, place_of, start_at, token_at, value_of}
-use Rattle.hs_base.specs.Bounds.{apart, on_some, new_bounds, bounds_of, IsScheduleOf, length_bounds, horizon_bounds, point_bounds, start_bounds, last_bounds, support_bounds, goal_bounds, fixed_bounds, since_bounds, goals_of}
+use Rattle.hs_base.specs.Bounds.{apart, on_some, new_bounds, IsScheduleOf, length_bounds, horizon_bounds, point_bounds, start_bounds, last_bounds, support_bounds, goal_bounds, goals_of}
 use Rattle.base_laws.proofs.ListLemmas.{each_flat, slice_get-append_left, snoc_induction}
-use Rattle.base_laws.proofs.PointLemmas.{timeline-append, tokens-push, count-push, ending_kept, start_kept, named, ref_of_new}
+use Rattle.base_laws.proofs.PointLemmas.{timeline-append, tokens-push, ending_kept, start_kept, ref_of_new}
 use Rattle.plan_laws.proofs.ScheduleLemmas.{left, right}
 
 -- x - y is in the range

@@ -5,3 +5,8 @@ pub mod RunLemmas
 pub mod ChainLemmas
 pub mod LengthLemmas
 pub mod SpanLemmas
+pub mod GoalLemmas
+pub mod NeedLemmas
+pub mod LegalLemmas
+pub mod FaultLemmas
+pub mod FitLemmas

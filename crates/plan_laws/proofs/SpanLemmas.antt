@@ -1,23 +1,20 @@
 -- In a schedule of a checked plan every token starts before the horizon, and every timeline ends after it.
-use Rattle.std.proofs.Common.{◌≡◌, ℕ, zero, suc, ◌+◌, ◌-◌, ◌<◌, ◌≤◌, pos, List, [], ◌∷◌, ◌++◌, length, get_or, Option, Some, refl, sym, ap, ◌∙◌, subst, arith, inl, inr, length-append}
+use Rattle.std.proofs.Common.{◌≡◌, ℕ, suc, ◌+◌, ◌-◌, ◌<◌, List, [], ◌∷◌, ◌++◌, length, get_or, Option, Some, sym, ap, ◌∙◌, subst, arith, inl, inr, length-append}
 use Rattle.std.proofs.lemmas.Int.{ints}
 use Rattle.std.proofs.lemmas.Bool.{cases_lt}
 use Rattle.std.proofs.lemmas.Option.{slice_get_within, slice_get-get_or, slice_get-map}
-use Rattle.std.specs.Prelude.{slice_get, ◌-ℤ◌, ◌+ℤ◌, ◌<ℤ◌, ◌≤ℤ◌, negsuc, map, option_map, take}
+use Rattle.std.specs.Prelude.{slice_get, ◌<ℤ◌, negsuc, map, option_map}
 use Rattle.std.specs.List.{AllByRecursion}
 use Rattle.hs_base.specs.declared.net.Bound.{Bound}
-use Rattle.hs_base.specs.declared.mission.Kind.{Kind}
 use Rattle.hs_base.specs.declared.mission.Horizon.{Horizon}
 use Rattle.hs_base.specs.declared.mission.Mission.{Mission}
 use Rattle.hs_base.specs.declared.plan.TokenRef.{TokenRef}
 use Rattle.hs_base.specs.declared.plan.Extension.{Extension}
-use Rattle.hs_base.specs.Walks.{EachAfter, IsInOrder}
 use Rattle.hs_base.specs.Schedule.{Schedule, Meets, Holds, bound, numbers_from}
 use Rattle.hs_base.specs.Ranges.{range}
-use Rattle.hs_base.specs.Points.{ending, tokens_of, timeline_of, refs_after, points_of, place_of, start_at, start, stop, hor}
-use Rattle.hs_base.specs.Bounds.{apart, on_some, exactly, new_bounds, IsScheduleOf, horizon_bounds, start_bounds, last_bound, last_bounds}
+use Rattle.hs_base.specs.Points.{ending, tokens_of, timeline_of, refs_after, points_of, place_of, start_at, start, hor}
+use Rattle.hs_base.specs.Bounds.{on_some, exactly, new_bounds, IsScheduleOf, last_bound}
 use Rattle.hs_base.specs.Missions.{IsMission}
-use Rattle.hs_base.specs.Checked.{KeepsRules}
 use Rattle.base_laws.proofs.ListLemmas.{each_at, each_flat, in_order, snoc_induction}
 use Rattle.base_laws.proofs.PointLemmas.{start_kept}
 use Rattle.plan_laws.proofs.LengthLemmas.{in_range, horizon_part, start_part, last_part, each_extension, new_token, number_at}

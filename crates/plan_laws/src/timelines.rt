@@ -10,7 +10,7 @@ ghost use Rattle.hs_base.specs.Schedule.{Schedule};
 ghost use Rattle.hs_base.specs.Points.{count, points_of, tokens_of, timeline_of, ending, place_of, start_at, value_of};
 ghost use Rattle.hs_base.specs.Ranges.{whole, InRange};
 ghost use Rattle.hs_base.specs.Bounds.{IsScheduleOf};
-ghost use Rattle.hs_base.specs.Timelines.{IsTimeline, tokens_in};
+ghost use Rattle.hs_base.specs.Timelines.{IsTimeline, Legal, tokens_in, timelines};
 ghost use Rattle.hs_base.specs.Checked.{Checked};
 
 /// Each schedule of a checked plan makes timelines whose tokens continue each other.
@@ -30,4 +30,9 @@ pub fn a_schedule_keeps_lengths_and_times()
 pub fn a_schedule_spans_the_horizons()
     ensures starts { (m : Mission) (es : List Extension) (s : Schedule) → IsMission m → IsScheduleOf m es s → (g : Horizon) (v i : ℕ) → slice_get m.horizons (length es - 1) ≡ Some g → i < length (timeline_of (tokens_of es) v) → s (start_at es v i) <ℤ g.tick }
     ensures ends { (m : Mission) (es : List Extension) (s : Schedule) → IsScheduleOf m es s → (g : Horizon) (v i : ℕ) → slice_get m.horizons (length es - 1) ≡ Some g → v < length m.vars → suc i ≡ length (timeline_of (tokens_of es) v) → g.tick <ℤ s (place_of (ending v i) (points_of es)) }
+{}
+
+/// Each schedule of a checked plan makes legal timelines up to the plan's last horizon.
+pub fn a_schedule_makes_legal_timelines()
+    ensures { (m : Mission) (es : List Extension) (s : Schedule) → Checked m es → (es ≡ [] → ⊥) → IsScheduleOf m es s → Legal m (length es) (timelines m es s) }
 {}
