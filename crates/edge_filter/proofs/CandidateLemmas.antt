@@ -1,9 +1,9 @@
 -- Candidates for kept edges: only dominated edges are dropped, and candidates alone decide.
-use Rattle.std.proofs.Common.{◌≡◌, ◌≢◌, ℕ, Bool, true, false, List, [], ◌∷◌, ◌++◌, get_or, map, All, Contains, pos, ◌+ℤ◌, refl, sym, ap, ◌∙◌, subst, arith, inl, inr}
+use Rattle.std.proofs.Common.{◌≡◌, ◌≢◌, ℕ, ◌+◌, ◌<◌, Bool, true, false, cond, take, List, [], ◌∷◌, ◌++◌, length, get_or, map, All, Contains, pos, ◌+ℤ◌, refl, sym, ap, ◌∙◌, subst, arith, inl, inr}
 use Rattle.std.proofs.lemmas.Int.{ints}
 use Rattle.std.proofs.lemmas.Bool.{cases_Bool, both_ways, and_parts, and_from, and_right, or_left, eqb-false, not-true, not_from_false, ne_eqb, cases_eq}
-use Rattle.std.proofs.lemmas.List.{map_push}
-use Rattle.std.proofs.lemmas.List.Elements.{All-contains, Contains-append_left, Contains-push}
+use Rattle.std.proofs.lemmas.List.{map_push, map-append, take_more}
+use Rattle.std.proofs.lemmas.List.Elements.{All-push, All-append, All-nil, filter-append, All-contains, Contains-append_left, Contains-push}
 use Rattle.std.proofs.lemmas.List.Folds.{list_any-append}
 use Rattle.std.proofs.lemmas.List.Sorted.{Contains-permutation, IsPermutation-sym}
 use Rattle.std.specs.Prelude.{filter, int_lt, int_le, not, ◌&&◌, nat_eq}
@@ -16,8 +16,28 @@ use Rattle.net_laws.proofs.ListLemmas.{has_from, contains_from, has_filter, filt
 use Rattle.edge_filter.specs.declared.side.Side.{Side}
 use Rattle.edge_filter.specs.declared.side.Side.TheVariants.{Incoming, Outgoing}
 use Rattle.edge_filter.specs.declared.candidates.Candidate.{Candidate}
+use Rattle.edge_filter.specs.declared.candidates.Keyed.{Keyed}
 use Rattle.edge_filter.specs.Sides.{along, has_sign, is_on, is_kept_at, is_kept_on}
-use Rattle.edge_filter.specs.Candidates.{IsSettled, AreNarrowed, IsCandidate, AreCandidates, passes_by, some_passes_by}
+use Rattle.edge_filter.specs.Candidates.{points_of, IsSettled, AreNarrowed, IsCandidate, AreCandidates, passes_by, some_passes_by}
+
+-- ---- One more keyed candidate
+
+cond_mapped : (b : Bool) (k : Keyed) → map (λ (k : Keyed). k.candidate.point) (cond b (k ∷ []) []) ≡ cond b (k.candidate.point ∷ []) []
+cond_mapped true k = refl
+cond_mapped false k = refl
+
+pub points_of-more : (side : Side) (d : Table) (a : ℕ) (keyed : List Keyed) (leaders : List ℕ) (i : ℕ) (k : Keyed) → i < length leaders → points_of keyed ≡ filter (is_on side d a) (take i leaders)
+    → k.candidate.point ≡ get_or leaders i 0 → points_of (keyed ++ cond (is_on side d a (get_or leaders i 0)) (k ∷ []) []) ≡ filter (is_on side d a) (take (i + 1) leaders)
+points_of-more side d a keyed leaders i k l e same =
+    let x = get_or leaders i 0 in let b = is_on side d a x in
+    map-append (λ (k : Keyed). k.candidate.point) keyed (cond b (k ∷ []) [])
+    ∙ ap (λ (ps : List ℕ). ps ++ map (λ (k : Keyed). k.candidate.point) (cond b (k ∷ []) [])) e
+    ∙ ap (λ (ps : List ℕ). filter (is_on side d a) (take i leaders) ++ ps) (cond_mapped b k ∙ ap (λ (p : ℕ). cond b (p ∷ []) []) same)
+    ∙ sym (filter-append (is_on side d a) (take i leaders) (x ∷ [])) ∙ ap (filter (is_on side d a)) (sym (take_more leaders i 0 l))
+
+pub All-cond : {X : Type 0} (P : X → Type 0) (xs : List X) (b : Bool) (x : X) → All P xs → P x → All P (xs ++ cond b (x ∷ []) [])
+All-cond P xs true x h p = All-push P xs x h p
+All-cond P xs false x h p = All-append P xs [] h (All-nil P)
 
 -- ---- One more point
 

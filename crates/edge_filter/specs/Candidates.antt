@@ -3,19 +3,26 @@ use Rattle.std.specs.Prelude.{◌≡◌, ◌⊎◌, ℕ, ◌<◌, neg_ℤ, ◌�
 use Rattle.std.specs.List.{list_any}
 use Rattle.hs_base.specs.declared.limits.TheConstants.{LAST}
 use Rattle.hs_base.specs.Reduced.{Table, int_eq}
+use Rattle.stn_distance.specs.Distances.{Distances, weight}
 use Rattle.edge_filter.specs.declared.side.Side.{Side}
 use Rattle.edge_filter.specs.declared.candidates.Candidate.{Candidate}
+use Rattle.edge_filter.specs.declared.candidates.Keyed.{Keyed}
 use Rattle.edge_filter.specs.Sides.{along, is_on, is_kept_at}
 
--- the points of keyed points
-abbrev pub points_of : List (ℤ × ℕ) → List ℕ
-points_of keyed = map (λ k. k.1) keyed
+-- the points of keyed candidates
+abbrev pub points_of : List Keyed → List ℕ
+points_of keyed = map (λ k. k.candidate.point) keyed
 
 -- its point is one of the first n, and its weight within LAST of 0
 pub record IsInReach (n : ℕ) (b : Candidate) : Type 0 where
   pub below : b.point < n
   pub low : neg_ℤ LAST ≤ℤ b.weight
   pub high : b.weight ≤ℤ LAST
+
+-- its candidate is in reach, and has the weight of its edge
+pub record IsKeyed (side : Side) (d : Distances) (a : ℕ) (k : Keyed) : Type 0 where
+  pub reach : IsInReach d.count k.candidate
+  pub weight : k.candidate.weight ≡ along side (weight d) a k.candidate.point
 
 -- the candidate isn't x, and stands on a shortest path of this weight
 abbrev pub passes_by : Side → Table → ℕ → ℤ → Candidate → Bool

@@ -5,7 +5,7 @@ ghost use Rattle.edge_filter.specs.Sides.{along, is_on, is_kept_on};
 ghost use Rattle.edge_filter.specs.Candidates.{IsInReach, some_passes_by};
 ghost use Rattle.edge_filter.specs.Marks.{AreLeaders, leaders_in, rows_in, mark_at, marks_on};
 
-use crate::candidates::{Candidate, candidates_of, is_on_side, some_is_by};
+use crate::candidates::{Candidate, candidates_of, is_on_side, middles_of, some_is_by};
 use crate::side::Side;
 use hs_base::{Bound, Group, List, Memory, PointId};
 use std::alloc::Global;
@@ -29,16 +29,11 @@ fn is_kept(dist: &Dist, side: Side, candidates: &[Candidate], leader: u32, other
     requires candidates { All (IsInReach dist.now.count) candidates.now }
     ensures { result ≡ (is_on side (weight dist.now) leader other && not (some_passes_by side (weight dist.now) candidates.now other (along side (weight dist.now) leader other))) }
 {
-    if !is_on_side(dist, side, leader, other) {
+    let weight = side.along(dist, leader, other);
+    if !is_on_side(side, leader, other, weight) {
         return false;
     }
-    !some_is_by(
-        dist,
-        side,
-        candidates,
-        other,
-        side.along(dist, leader, other),
-    )
+    !some_is_by(dist, side, candidates, other, weight)
 }
 
 /// Which edges between a leader and each of them are on this side and kept.
@@ -46,14 +41,16 @@ fn kept_on(
     alloc: Global,
     dist: &Dist,
     leaders: &[u32],
+    middles: &[i64],
     side: Side,
     leader: u32,
 ) -> Result<Vec<bool>, Memory>
     requires leaders { AreLeaders dist.now leaders.now }
+    requires middles { length middles.now ≡ length leaders.now }
     requires leader { Contains leaders.now leader }
     ensures { IfOk result (λ v. v.items ≡ map (is_kept_on side (weight dist.now) leaders.now leader) leaders.now) }
 {
-    let candidates = candidates_of(alloc, dist, leaders, side, leader)?;
+    let candidates = candidates_of(alloc, dist, leaders, middles, side, leader)?;
     let mut marks = Vec::with_capacity(alloc, leaders.len())?;
     for other in leaders {
         marks.push(is_kept(dist, side, &candidates, leader, *other))?;
@@ -66,14 +63,16 @@ fn rows_on(
     alloc: Global,
     dist: &Dist,
     leaders: &[u32],
+    middles: &[i64],
     side: Side,
 ) -> Result<Vec<Vec<bool>>, Memory>
-    requires { AreLeaders dist.now leaders.now }
+    requires leaders { AreLeaders dist.now leaders.now }
+    requires middles { length middles.now ≡ length leaders.now }
     ensures { IfOk result (λ v. rows_in v.items ≡ marks_on side (weight dist.now) leaders.now leaders.now) }
 {
     let mut rows = Vec::with_capacity(alloc, leaders.len())?;
     for leader in leaders {
-        rows.push(kept_on(alloc, dist, leaders, side, *leader)?)?;
+        rows.push(kept_on(alloc, dist, leaders, middles, side, *leader)?)?;
     }
     Ok(rows)
 }
@@ -141,8 +140,9 @@ pub fn keep(alloc: Global, dist: &Dist, groups: &List<Group>) -> Result<List<Bou
 {
     let _ = dist.points();
     let leaders = leaders_of(alloc, groups.as_slice())?;
-    let incoming = rows_on(alloc, dist, &leaders, Side::Incoming)?;
-    let outgoing = rows_on(alloc, dist, &leaders, Side::Outgoing)?;
+    let middles = middles_of(alloc, dist, &leaders)?;
+    let incoming = rows_on(alloc, dist, &leaders, &middles, Side::Incoming)?;
+    let outgoing = rows_on(alloc, dist, &leaders, &middles, Side::Outgoing)?;
     let mut edges = Vec::new(alloc);
     for i in 0..leaders.len() {
         push_edges(dist, &leaders, &incoming, &outgoing, i, &mut edges)?;
