@@ -3,8 +3,10 @@
 
 mod candidates;
 mod filter;
+mod reduction;
 mod side;
 #[cfg(test)]
 mod tests;
 
 pub use filter::keep;
+pub use reduction::network;

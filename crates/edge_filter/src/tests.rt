@@ -1,5 +1,5 @@
 use super::*;
-use hs_base::{Bound, LAST, PointId};
+use hs_base::{Bound, LAST, Member, PointId};
 use rigid_contract::contract;
 use std::test::Fail;
 use stn_distance::close;
@@ -47,5 +47,70 @@ fn a_group_has_no_edges(rt: HostRuntime) -> Result<(), Fail> {
     let groups = contract(rt.alloc(), &dist)?;
     let edges = keep(rt.alloc(), &dist, &groups)?;
     assert!(rt; edges.is_empty());
+    Ok(())
+}
+
+/// The camera mission's plan, but for bounds that others imply: its points are Z, the horizon, the
+/// ends of the camera's three tokens, and of the attitude's three.
+#[test]
+fn makes_the_camera_network(rt: HostRuntime) -> Result<(), Fail> {
+    let bounds = [
+        bound!(0, 1, 100),
+        bound!(1, 0, -100),
+        bound!(0, 2, 40),
+        bound!(2, 0, -20),
+        bound!(2, 3, 5),
+        bound!(3, 2, -3),
+        bound!(3, 0, 0),
+        bound!(0, 3, LAST),
+        bound!(4, 1, -1),
+        bound!(4, 3, -1),
+        bound!(0, 4, LAST),
+        bound!(4, 0, 0),
+        bound!(0, 5, LAST),
+        bound!(5, 0, -1),
+        bound!(5, 6, 12),
+        bound!(6, 5, -10),
+        bound!(0, 6, LAST),
+        bound!(6, 0, 0),
+        bound!(2, 6, 0),
+        bound!(7, 6, -1),
+        bound!(7, 1, -1),
+        bound!(7, 3, 0),
+        bound!(0, 7, LAST),
+        bound!(7, 0, 0),
+        bound!(1, 2, -1),
+        bound!(1, 3, -1),
+        bound!(1, 6, -1),
+    ];
+    let dist = close(rt.alloc(), 8, &bounds)?;
+    let net = network(rt.alloc(), &dist).map_err(|_| "memory")?;
+    let kept = [
+        bound!(0, 2, 40),
+        bound!(0, 4, LAST),
+        bound!(0, 5, 30),
+        bound!(0, 7, LAST),
+        bound!(2, 0, -20),
+        bound!(2, 3, 5),
+        bound!(2, 5, -10),
+        bound!(2, 6, 0),
+        bound!(3, 2, -3),
+        bound!(4, 0, -101),
+        bound!(5, 0, -1),
+        bound!(5, 6, 12),
+        bound!(6, 5, -10),
+        bound!(7, 0, -101),
+    ];
+    assert_eq!(rt; net.edges.as_slice(), kept.as_slice());
+    assert_eq!(rt; net.groups.len(), 7);
+    let first = &net.groups.as_slice()[0];
+    assert_eq!(rt;
+        first.members.as_slice(),
+        [Member {
+            point: PointId(1),
+            offset: 100
+        }]
+        .as_slice()
+    );
     Ok(())
 }
