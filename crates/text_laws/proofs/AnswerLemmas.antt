@@ -1,13 +1,12 @@
 -- What a parser's answer says of the pieces, and that they have one answer.
-use Rattle.std.proofs.Common.{◌≡◌, ◌⊎◌, ℕ, zero, suc, ◌+◌, ◌-◌, ◌<◌, ◌≤◌, List, [], ◌∷◌, ◌++◌, length, take, drop, refl, sym, ap, ◌∙◌, subst, append_assoc, append-nil, length-append, inl, inr, arith, length-take, length-drop}
-use Rattle.std.specs.Prelude.{Option, Some, None}
+use Rattle.std.proofs.Common.{◌≡◌, ℕ, zero, suc, ◌+◌, ◌<◌, ◌≤◌, List, [], ◌∷◌, ◌++◌, length, take, drop, refl, sym, ap, ◌∙◌, subst, append_assoc, append-nil, length-append, inl, inr, arith, length-take, length-drop}
 use Rattle.std.proofs.lemmas.Bool.{cases_lt}
-use Rattle.std.proofs.Math.Seq.{take-append_seam, take-append-add, take-length}
+use Rattle.std.proofs.Math.Seq.{take-append_seam, take-append-add}
 use Rattle.std.proofs.lemmas.List.{take-append-drop, take-take}
 use Rattle.hs_base.specs.Pieces.{Piece}
 use Rattle.hs_base.specs.Languages.{Language, BeginsSentence, IsExpected, IsTrailing}
-use Rattle.text_laws.specs.Parsers.{Read, done, stuck, Parser, next}
-use Rattle.text_laws.specs.Reads.{Avoids, HasRead, IsStuck, Lives, Reads}
+use Rattle.text_laws.specs.Parsers.{done, stuck, Parser, next}
+use Rattle.text_laws.specs.Reads.{IsStuck, Reads}
 use Rattle.text_laws.proofs.ListLemmas.{avoids_none, not_both, same_value, same_rest}
 
 pub all_taken : (ps : List Piece) (n : ℕ) → length ps ≤ n → take n ps ≡ ps
@@ -81,10 +80,10 @@ sentence_begins R ps n x h = record { more = []; value = x; sentence = subst (λ
 pub spelled_or_expected : {A : Type 0} (R : Language A) (ps : List Piece) (n : ℕ) (x : A) → R ps x → IsExpected R ps n → ⊥
 spelled_or_expected R ps n x h e =
     elim (cases_lt n (length ps)) [
-    | inl lt ↦
-        let whole : R (take (length ps) ps) x = subst (λ (zs : List Piece). R zs x) (sym (all_taken ps (length ps) (omega arith))) h in
-        e.after lt (fewer_begin R ps (n + 1) (length ps) (omega (arith, lt)) (sentence_begins R ps (length ps) x whole))
-    | inr ge ↦ e.none x (subst (λ (zs : List Piece). R zs x) (sym (all_taken ps n ge)) h)
+      | inl lt ↦
+          let whole : R (take (length ps) ps) x = subst (λ (zs : List Piece). R zs x) (sym (all_taken ps (length ps) (omega arith))) h in
+          e.after lt (fewer_begin R ps (n + 1) (length ps) (omega (arith, lt)) (sentence_begins R ps (length ps) x whole))
+      | inr ge ↦ e.none x (subst (λ (zs : List Piece). R zs x) (sym (all_taken ps n ge)) h)
     ]
 
 -- nor one that is too much
@@ -99,10 +98,10 @@ spelled_or_trailing R p r ps n x h t =
 pub expected_one : {A : Type 0} (R : Language A) (ps : List Piece) (m n : ℕ) → IsExpected R ps m → IsExpected R ps n → m ≡ n
 expected_one R ps m n h k =
     elim (cases_lt m n) [
-    | inl lt ↦ absurd (h.after (omega (arith, lt, k.within)) (fewer_begin R ps (m + 1) n (omega (arith, lt)) k.before))
-    | inr ge ↦ elim (cases_lt n m) [
-      | inl lt ↦ absurd (k.after (omega (arith, lt, h.within)) (fewer_begin R ps (n + 1) m (omega (arith, lt)) h.before))
-      | inr le ↦ omega (arith, ge, le)
+      | inl lt ↦ absurd (h.after (omega (arith, lt, k.within)) (fewer_begin R ps (m + 1) n (omega (arith, lt)) k.before))
+      | inr ge ↦ elim (cases_lt n m) [
+        | inl lt ↦ absurd (k.after (omega (arith, lt, h.within)) (fewer_begin R ps (n + 1) m (omega (arith, lt)) h.before))
+        | inr le ↦ omega (arith, ge, le)
       ]
     ]
 
@@ -110,16 +109,16 @@ expected_one R ps m n h k =
 pub expected_or_trailing : {A : Type 0} (R : Language A) (p : Parser A) → Reads R p [] → (ps : List Piece) (m n : ℕ) → IsExpected R ps m → IsTrailing R ps n → ⊥
 expected_or_trailing R p r ps m n h t =
     elim (cases_lt m n) [
-    | inl lt ↦ h.after (omega (arith, lt, t.within)) (fewer_begin R ps (m + 1) n (omega (arith, lt)) (sentence_begins R ps n t.value t.sentence))
-    | inr ge ↦ elim (cases_lt n m) [
-      | inl lt ↦
-          let b = h.before in
-          let a = reads_whole R p r (take m ps ++ b.more) b.value b.sentence in
-          let e : take m ps ≡ take n ps ++ drop n (take m ps) = sym (take-append-drop n (take m ps)) ∙ ap (λ (zs : List Piece). zs ++ drop n (take m ps)) (take-take n m ps (omega (arith, lt))) in
-          let c = ap p (ap (λ (zs : List Piece). zs ++ b.more) e ∙ append_assoc (take n ps) (drop n (take m ps)) b.more) ∙ reads_front R p r (take n ps) (drop n (take m ps) ++ b.more) t.value t.sentence in
-          let none : drop n (take m ps) ++ b.more ≡ [] = sym (same_rest (sym a ∙ c)) in
-          absurd (omega (arith, ap length none, length-append (drop n (take m ps)) b.more, length-drop n (take m ps), length-take m ps, h.within, lt))
-      | inr le ↦ let same : m ≡ n = omega (arith, ge, le) in h.none t.value (subst (λ (k : ℕ). R (take k ps) t.value) (sym same) t.sentence)
+      | inl lt ↦ h.after (omega (arith, lt, t.within)) (fewer_begin R ps (m + 1) n (omega (arith, lt)) (sentence_begins R ps n t.value t.sentence))
+      | inr ge ↦ elim (cases_lt n m) [
+        | inl lt ↦
+            let b = h.before in
+            let a = reads_whole R p r (take m ps ++ b.more) b.value b.sentence in
+            let e : take m ps ≡ take n ps ++ drop n (take m ps) = sym (take-append-drop n (take m ps)) ∙ ap (λ (zs : List Piece). zs ++ drop n (take m ps)) (take-take n m ps (omega (arith, lt))) in
+            let c = ap p (ap (λ (zs : List Piece). zs ++ b.more) e ∙ append_assoc (take n ps) (drop n (take m ps)) b.more) ∙ reads_front R p r (take n ps) (drop n (take m ps) ++ b.more) t.value t.sentence in
+            let none : drop n (take m ps) ++ b.more ≡ [] = sym (same_rest (sym a ∙ c)) in
+            absurd (omega (arith, ap length none, length-append (drop n (take m ps)) b.more, length-drop n (take m ps), length-take m ps, h.within, lt))
+        | inr le ↦ let same : m ≡ n = omega (arith, ge, le) in h.none t.value (subst (λ (k : ℕ). R (take k ps) t.value) (sym same) t.sentence)
       ]
     ]
 

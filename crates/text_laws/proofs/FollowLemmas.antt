@@ -1,17 +1,16 @@
 -- What languages begin with, what may stand behind them, and the laws of the combined ways to read.
-use Rattle.std.proofs.Common.{◌≡◌, ◌⊎◌, ℕ, List, [], ◌∷◌, ◌++◌, Bool, true, false, cond, not, ◌&&◌, ◌||◌, refl, sym, ap, ◌∙◌, subst, append_assoc, append-nil, inl, inr, nat_eq, arith, tests, rules}
+use Rattle.std.proofs.Common.{◌≡◌, ℕ, List, [], ◌∷◌, ◌++◌, Bool, true, false, cond, not, ◌||◌, refl, sym, ap, ◌∙◌, subst, append_assoc, inl, inr, nat_eq, arith}
 use Rattle.std.specs.Prelude.{Option, Some, None, codes}
 use Rattle.std.specs.List.{AllByRecursion, list_any, list_all}
 use Rattle.std.specs.Str.{bytes_eq, byte}
 use Rattle.std.proofs.lemmas.Slice.Eq.{bytes_eq-Decides}
-use Rattle.std.proofs.lemmas.Bool.{and_parts, both_ways}
+use Rattle.std.proofs.lemmas.Bool.{and_parts}
 use Rattle.std.proofs.lemmas.Bool.Decides.{nat_tests}
 use Prim.Native.String.{String}
 use Rattle.hs_base.specs.Pieces.{Piece, word, number as digits, symbol}
-use Rattle.hs_base.specs.Languages.{Language, One, Yields, Then, ◌∣◌, Maybe, Many, Several, Keyword, Sign, Number, After, Behind, Apart, word_says, symbol_says, number_says}
-use Rattle.text_laws.specs.Parsers.{Parser, next, ◌>>=◌, yields, one, choose, many, is_word, is_sign, keyword, sign, number, after, behind, maybe_after, several, apart}
-use Rattle.text_laws.specs.Reads.{Avoids, HasRead, IsStuck, Lives, Reads, Leads, Finds, BeginsWith}
-use Rattle.text_laws.proofs.ListLemmas.{avoids_none}
+use Rattle.hs_base.specs.Languages.{Language, Yields, Then, ◌∣◌, Maybe, Many, Several, Keyword, Sign, Number, After, Behind, Apart, word_says, symbol_says, number_says}
+use Rattle.text_laws.specs.Parsers.{Parser, next, ◌>>=◌, yields, many, is_word, is_sign, keyword, sign, number, after, behind, maybe_after, several, apart}
+use Rattle.text_laws.specs.Reads.{Avoids, Reads, Leads, Finds, BeginsWith}
 use Rattle.text_laws.proofs.ParserLemmas.{one_reads, yields_reads}
 use Rattle.text_laws.proofs.ThenLemmas.{then_reads, then_any}
 use Rattle.text_laws.proofs.ChoiceLemmas.{choose_reads}
@@ -46,8 +45,8 @@ pub avoids_test : (F : List Piece) (p : Piece) → list_any (λ f. same_piece f 
 avoids_test [] p h = tt
 avoids_test (f ∷ F) p h =
     elim (same_piece f p) as (λ b. same_piece f p ≡ b → Avoids (f ∷ F) (Some p)) [
-    | true ↦ λ e. absurd (grind arith)
-    | false ↦ λ e. ((λ k. let one' : same_piece f p ≡ true = subst (λ (z : Piece). same_piece f z ≡ true) k (same_self f) in cc (e, one')), avoids_test F p (grind arith))
+      | true ↦ λ e. absurd (grind arith)
+      | false ↦ λ e. ((λ k. let one' : same_piece f p ≡ true = subst (λ (z : Piece). same_piece f z ≡ true) k (same_self f) in cc (e, one')), avoids_test F p (grind arith))
     ] refl
 
 -- what avoids the pieces of G avoids those of F
@@ -58,8 +57,8 @@ is_covered : (G : List Piece) (f p : Piece) → list_any (λ g. same_piece g f) 
 is_covered [] f p h k e = absurd cc
 is_covered (g ∷ G) f p h k e =
     elim (same_piece g f) as (λ b. same_piece g f ≡ b → ⊥) [
-    | true ↦ λ t. k.0 (is_same g f t ∙ e)
-    | false ↦ λ t. is_covered G f p (grind arith) k.1 e
+      | true ↦ λ t. k.0 (is_same g f t ∙ e)
+      | false ↦ λ t. is_covered G f p (grind arith) k.1 e
     ] refl
 
 all_covered : (G F : List Piece) (p : Piece) → list_all (λ f. list_any (λ g. same_piece g f) G) F ≡ true → AllByRecursion (λ s. s ≡ p → ⊥) G → AllByRecursion (λ s. s ≡ p → ⊥) F
@@ -99,8 +98,8 @@ leads_either R S G F l m = record { avoids = λ u rest x k a. elim k [ inl h ↦
 pub leads_then : {A B : Type 0} (R : Language A) (S : A → Language B) (G H F : List Piece) → Leads R H F → ((x : A) → Leads (S x) G H) → Leads (Then R S) G F
 leads_then R S G H F l m = record {
   avoids = λ u rest y k a.
-    rw (k.joined, append_assoc k.front k.back rest)
-    (l.avoids k.front (k.back ++ rest) k.value k.first ((m k.value).avoids k.back rest y k.second a));
+      rw (k.joined, append_assoc k.front k.back rest)
+      (l.avoids k.front (k.back ++ rest) k.value k.first ((m k.value).avoids k.back rest y k.second a));
 }
 
 many_avoids : {A : Type 0} (R : Language A) (s : Piece) (G F : List Piece) → BeginsWith R s → list_any (λ f. same_piece f s) F ≡ false → Covers G F → (u rest : List Piece) (xs : List A) → Many R u xs → Avoids G (next rest) → Avoids F (next (u ++ rest))
@@ -160,17 +159,17 @@ finds_sign c = record { none = refl; here = same_self (symbol (byte c)); only = 
 pub starts_after : {A : Type 0} (w : String) (R : Language A) → StartsIn (After w R) (word (codes w) ∷ [])
 starts_after w R = record {
   first = λ u x k.
-    let e = (begins_then (Keyword w) (λ _. R) (word (codes w)) (begins_keyword w)).begins u x k in
-    (word (codes w), e.0, e.1, ap (λ b. b || false) (same_self (word (codes w))));
+      let e = (begins_then (Keyword w) (λ _. R) (word (codes w)) (begins_keyword w)).begins u x k in
+      (word (codes w), e.0, e.1, ap (λ b. b || false) (same_self (word (codes w))));
 }
 
 pub starts_either : {A : Type 0} (R S : Language A) (s : Piece) (ss : List Piece) → StartsIn R (s ∷ []) → StartsIn S ss → StartsIn (R ∣ S) (s ∷ ss)
 starts_either R S s ss r o = record {
   first = λ u x k.
-    elim k [
-    | inl h ↦ let f = r.first u x h in (f.0, f.1, f.2, grind arith)
-    | inr h ↦ let f = o.first u x h in (f.0, f.1, f.2, grind arith)
-    ];
+      elim k [
+        | inl h ↦ let f = r.first u x h in (f.0, f.1, f.2, grind arith)
+        | inr h ↦ let f = o.first u x h in (f.0, f.1, f.2, grind arith)
+      ];
 }
 
 -- a piece that starts a sentence is none of the stops
@@ -178,13 +177,13 @@ start_avoids : (ss F : List Piece) (p : Piece) → list_any (λ s. same_piece s 
 start_avoids [] F p h k = absurd cc
 start_avoids (s ∷ ss) F p h k =
     elim (same_piece s p) as (λ b. same_piece s p ≡ b → Avoids F (Some p)) [
-    | true ↦ λ e. subst (λ (q : Piece). Avoids F (Some q)) (is_same s p e) (each_differs F s (and_parts _ _ k).0)
-    | false ↦ λ e. start_avoids ss F p (grind arith) (and_parts _ _ k).1
+      | true ↦ λ e. subst (λ (q : Piece). Avoids F (Some q)) (is_same s p e) (each_differs F s (and_parts _ _ k).0)
+      | false ↦ λ e. start_avoids ss F p (grind arith) (and_parts _ _ k).1
     ] refl
   where
-  each_differs : (F : List Piece) (s : Piece) → list_all (λ f. not (same_piece f s)) F ≡ true → Avoids F (Some s)
-  each_differs [] s h = tt
-  each_differs (f ∷ F) s h = ((λ e. let t : same_piece f s ≡ true = subst (λ (z : Piece). same_piece f z ≡ true) e (same_self f) in grind arith), each_differs F s (and_parts _ _ h).1)
+    each_differs : (F : List Piece) (s : Piece) → list_all (λ f. not (same_piece f s)) F ≡ true → Avoids F (Some s)
+    each_differs [] s h = tt
+    each_differs (f ∷ F) s h = ((λ e. let t : same_piece f s ≡ true = subst (λ (z : Piece). same_piece f z ≡ true) e (same_self f) in grind arith), each_differs F s (and_parts _ _ h).1)
 
 pub leads_starts : {A : Type 0} (R : Language A) (ss G F : List Piece) → StartsIn R ss → list_all (λ s. list_all (λ f. not (same_piece f s)) F) ss ≡ true → Leads R G F
 leads_starts R ss G F b h = record {

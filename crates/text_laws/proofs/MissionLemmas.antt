@@ -1,6 +1,6 @@
 -- Each nonterminal of the mission text is read by its parser.
-use Rattle.std.proofs.Common.{◌≡◌, ℕ, ℤ, List, [], ◌∷◌, ◌++◌, Bool, true, false, not, cond, refl, sym, ap, subst, nat_eq}
-use Rattle.std.specs.Prelude.{Option, Some, None, codes, flat_map}
+use Rattle.std.proofs.Common.{◌≡◌, ℕ, ℤ, List, [], ◌∷◌, ◌++◌, true, false, not, cond, refl, sym, subst, nat_eq}
+use Rattle.std.specs.Prelude.{Some, None, codes}
 use Rattle.std.specs.Str.{byte}
 use Rattle.std.specs.List.{list_any, list_all}
 use Prim.Native.String.{String}
@@ -15,16 +15,16 @@ use Rattle.hs_base.specs.declared.ast.Ast.{Ast}
 use Rattle.hs_base.specs.Names.{is_name}
 use Rattle.hs_base.specs.Ranges.{range, whole}
 use Rattle.hs_base.specs.Pieces.{Piece, word, number as digits, symbol}
-use Rattle.hs_base.specs.Languages.{Language, One, Yields, Then, ◌∣◌, Maybe, Many, Several, Keyword, Sign, Number, After, Behind, Apart, number_says}
+use Rattle.hs_base.specs.Languages.{Language, Yields, Then, ◌∣◌, Maybe, Many, Several, Keyword, Sign, Number, After, Behind, Apart, number_says}
 use Rattle.hs_base.specs.MissionText.{version_says, VersionText, name_says, NameText, LimitText, RangeText, UseText, KindText, NextText, DoText, UntilText, PartText, PartsText, ScriptText, SaidText, AnswersText, PlainText, DeviceText, ValueText, SomeUseText, BeginText, VarText, OneRange, TwoRanges, RelationText, ChoiceText, FurtherChoices, ChoicesText, NeedText, GoalText, HorizonText, ClausesText, MissionText, until_done}
-use Rattle.text_laws.specs.Parsers.{Parser, next, ◌>>=◌, yields, one, is_word, is_sign, choose, many, keyword, sign, number, after, behind, maybe_after, several, apart}
+use Rattle.text_laws.specs.Parsers.{Parser, next, yields, is_word, is_sign, choose, many, keyword, sign, number, after, behind, maybe_after, several, apart}
 use Rattle.text_laws.specs.Reads.{Avoids, Reads, Leads, BeginsWith}
 use Rattle.text_laws.specs.MissionReading.{version_at, name_at, limit_at, range_at, use_at, kind_at, uses_at, next_at, do_at, until_at, part_at, parts_at, script_at, said_at, answers_at, plain_at, device_at, value_at, some_use_at, begin_at, var_at, one_range, two_ranges, relation_at, choice_at, further_at, choices_at, need_at, goal_at, horizon_at, clauses_at, mission_at}
 use Rattle.text_laws.proofs.ParserLemmas.{one_reads, yields_reads}
 use Rattle.text_laws.proofs.ThenLemmas.{then_reads, then_any}
 use Rattle.text_laws.proofs.ChoiceLemmas.{choose_reads}
 use Rattle.text_laws.proofs.ManyLemmas.{AreItems, many_reads}
-use Rattle.text_laws.proofs.FollowLemmas.{same_piece, Covers, covers_test, avoids_test, weaken, StartsIn, leads_begin, leads_yields, leads_either, leads_then, leads_many, leads_starts, begins_then, begins_keyword, begins_sign, keyword_reads, sign_reads, number_reads, finds_word, finds_sign, starts_after, starts_either, after_reads, behind_reads, keyed_items, parted_items, maybe_reads, several_reads, apart_reads}
+use Rattle.text_laws.proofs.FollowLemmas.{same_piece, Covers, covers_test, weaken, StartsIn, leads_begin, leads_yields, leads_either, leads_then, leads_many, leads_starts, begins_then, begins_keyword, keyword_reads, sign_reads, number_reads, finds_word, starts_after, starts_either, after_reads, keyed_items, parted_items, maybe_reads, several_reads, apart_reads}
 
 -- nothing is read, and these may not stand behind it
 nothing : {A : Type 0} (value : A) (G : List Piece) → Reads (Yields value) (yields value) G
@@ -198,8 +198,8 @@ device_reads v name lasts =
     then_any (Keyword "device") _ (keyword "device") _ device_stops (keyword_reads "device") (λ _.
     then_reads (NextText v) _ (next_at v) _ next_stops device_stops (next_reads v)
     (λ next'. then_reads (ScriptText v) _ (script_at v) _ script_stops device_stops (script_reads v)
-      (λ script. then_reads (Many (AnswersText v)) _ (many (is_word (codes "answers")) (answers_at v)) _ answers_stops device_stops (all_answers_reads v) (λ answers. nothing _ _) (λ answers. leads_yields _ _ _ (covers_test _ _ refl)))
-      (λ script. answers_lead v _ script_stops refl (covers_test _ _ refl)))
+    (λ script. then_reads (Many (AnswersText v)) _ (many (is_word (codes "answers")) (answers_at v)) _ answers_stops device_stops (all_answers_reads v) (λ answers. nothing _ _) (λ answers. leads_yields _ _ _ (covers_test _ _ refl)))
+    (λ script. answers_lead v _ script_stops refl (covers_test _ _ refl)))
     (λ next'. leads_then (ScriptText v) _ device_stops next_stops next_stops (script_leads v) (λ script. answers_lead v _ next_stops refl (covers_test _ _ refl)))))
 
 next_leads : (v : ℕ) → Leads (NextText v) (kw "by" ∷ []) (kw "by" ∷ [])
@@ -282,7 +282,6 @@ Relation3 = After "meets" (Yields Meets) ∣ Relation4
 abbrev Relation2 : Language Relation
 Relation2 = After "after" (OneRange AfterEnd) ∣ Relation3
 
-
 starts8 : StartsIn Relation8 (kw "contains" ∷ kw "contained_by" ∷ [])
 starts8 = starts_either _ _ _ _ (starts_after "contains" _) (starts_after "contained_by" _)
 
@@ -332,8 +331,8 @@ pub further_reads : (v : ℕ) → Reads (FurtherChoices v) (further_at v) (kw "o
 unfolding further_at
 further_reads v =
     elim (nat_eq v 1) as (λ b. Reads (cond b (Yields []) (Many (After "or" (ChoiceText v)))) (cond b (yields []) (many (is_word (codes "or")) (after "or" (choice_at v)))) (kw "or" ∷ [])) [
-    | true ↦ nothing [] (kw "or" ∷ [])
-    | false ↦ more_choices_reads v
+      | true ↦ nothing [] (kw "or" ∷ [])
+      | false ↦ more_choices_reads v
     ]
 
 pub choices_reads : (v : ℕ) → Reads (ChoicesText v) (choices_at v) (kw "or" ∷ [])
@@ -413,10 +412,10 @@ unfolding clauses_at
 clauses_reads v =
     then_reads (Several (VarText v)) _ (several "var" (var_at v)) _ vars_stops [] (several_reads "var" (VarText v) (var_at v) var_stops (begins_var v) (var_reads v) refl)
     (λ vars. then_reads (Many (NeedText v)) _ (many (is_word (codes "need")) (need_at v)) _ needs_stops [] (many_reads (is_word (codes "need")) (kw "need") (NeedText v) (need_at v) (kw "or" ∷ []) (need_items v))
-      (λ needs. then_reads (Several (HorizonText v)) _ (several "horizon" (horizon_at v)) _ horizons_stops [] (several_reads "horizon" (HorizonText v) (horizon_at v) horizon_stops (begins_horizon v) (horizon_reads v) refl)
-        (λ horizons. then_any (Keyword "end") _ (keyword "end") _ [] (keyword_reads "end") (λ _. yields_reads _))
-        (λ horizons. leads_begin _ (kw "end") [] horizons_stops (begins_then (Keyword "end") _ (kw "end") (begins_keyword "end")) refl))
-      (λ needs. leads_begin _ (kw "horizon") [] needs_stops (begins_horizons v _) refl))
+    (λ needs. then_reads (Several (HorizonText v)) _ (several "horizon" (horizon_at v)) _ horizons_stops [] (several_reads "horizon" (HorizonText v) (horizon_at v) horizon_stops (begins_horizon v) (horizon_reads v) refl)
+    (λ horizons. then_any (Keyword "end") _ (keyword "end") _ [] (keyword_reads "end") (λ _. yields_reads _))
+    (λ horizons. leads_begin _ (kw "end") [] horizons_stops (begins_then (Keyword "end") _ (kw "end") (begins_keyword "end")) refl))
+    (λ needs. leads_begin _ (kw "horizon") [] needs_stops (begins_horizons v _) refl))
     (λ vars. leads_then (Many (NeedText v)) _ [] vars_stops vars_stops (leads_many (NeedText v) (kw "need") vars_stops vars_stops (begins_need v) refl (covers_test _ _ refl)) (λ needs. leads_begin _ (kw "horizon") [] vars_stops (begins_horizons v _) refl))
 
 pub mission_reads : Reads MissionText mission_at []

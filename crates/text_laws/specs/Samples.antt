@@ -82,17 +82,17 @@ camera = record {
   version = 1;
   sorts = [];
   vars =
-    record {
-      name = codes "camera";
-      values = plain "idle" (range (pos 1) LAST) (named "shoot" ∷ []) ∷ timed "shoot" (range (pos 3) (pos 5)) (named "idle" ∷ []) (pos 4) ∷ [];
-      begin = Some (named "idle");
-    }
-    ∷ record {
-      name = codes "attitude";
-      values = plain "earth" (range (pos 1) LAST) (named "turn" ∷ []) ∷ timed "turn" (range (pos 10) (pos 12)) (named "comet" ∷ []) (pos 11) ∷ plain "comet" (range (pos 1) LAST) [] ∷ [];
-      begin = Some (named "earth");
-    }
-    ∷ [];
+      record {
+        name = codes "camera";
+        values = plain "idle" (range (pos 1) LAST) (named "shoot" ∷ []) ∷ timed "shoot" (range (pos 3) (pos 5)) (named "idle" ∷ []) (pos 4) ∷ [];
+        begin = Some (named "idle");
+      }
+      ∷ record {
+        name = codes "attitude";
+        values = plain "earth" (range (pos 1) LAST) (named "turn" ∷ []) ∷ timed "turn" (range (pos 10) (pos 12)) (named "comet" ∷ []) (pos 11) ∷ plain "comet" (range (pos 1) LAST) [] ∷ [];
+        begin = Some (named "earth");
+      }
+      ∷ [];
   needs = record { of = kind "camera" "shoot"; either = record { relation = ContainedBy whole whole; by = kind "attitude" "comet" } ∷ [] } ∷ [];
   horizons = record { tick = pos 100; goals = record { kind = kind "camera" "shoot"; start = range (pos 20) (pos 40); stop = whole } ∷ [] } ∷ [];
 }
