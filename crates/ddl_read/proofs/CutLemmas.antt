@@ -5,17 +5,15 @@ use Rattle.std.proofs.lemmas.List.{take-append-drop}
 use Rattle.std.specs.List.{list_any}
 use Rattle.std.specs.Str.{IsUtf8}
 use Rattle.std.proofs.lemmas.List.{map-append, length-map}
-use Rattle.hs_base.specs.declared.refusal.Refusal.{Refusal}
-use Rattle.hs_base.specs.declared.refusal.Refusal.TheVariants.{Char, Memory, NotUtf8}
 use Rattle.std.specs.Prelude.{cond, ◌||◌, pos, ◌+ℤ◌, int_lt, slice_get, Some}
 use Rattle.std.proofs.lemmas.Bool.Decides.{nat_tests}
 use Rattle.hs_base.specs.declared.limits.TheConstants.{LAST, TEXT_BYTES}
-use Rattle.hs_base.specs.Pieces.{Piece as Spelling, word, number, symbol, number_of, is_large, is_space, IsBadNumber, IsTextOf, IsCutRefusal, Placed, IsPiece, begins, bytes_of, begins_no_piece, after_gap, StandsFirst, Cuts, AreCut, IsBadChar}
+use Rattle.hs_base.specs.Pieces.{Piece as Spelling, word, number, symbol, number_of, is_large, is_space, IsBadNumber, IsTextOf, Placed, IsPiece, begins, bytes_of, begins_no_piece, after_gap, StandsFirst, Cuts, AreCut, IsBadChar}
 use Rattle.ddl_read.specs.declared.piece.Piece.{Piece}
 use Rattle.ddl_read.specs.declared.piece.PieceKind.{PieceKind}
 use Rattle.ddl_read.specs.declared.piece.PieceKind.TheVariants.{Word, Number, Symbol}
-use Rattle.ddl_read.specs.Spelled.{spelling, spelling_of, bytes_of_piece, placed, KeepsNumber, IsSpelled, OrMemory}
-use Rattle.ddl_read.specs.Cutting.{Ends, IsBadNext, AreFirst, AreAll, is_too_large, IsFirstLarge, IsCut, IsCharRefusal, IsUtf8Refusal}
+use Rattle.ddl_read.specs.Spelled.{spelling, spelling_of, bytes_of_piece, placed, KeepsNumber, IsSpelled}
+use Rattle.ddl_read.specs.Cutting.{Ends, IsBadNext, AreFirst, AreAll, is_too_large, IsFirstLarge, IsCut}
 
 -- a piece of these bytes stands behind the gap
 pub piece_ends : (text : List ℕ) (from at end : ℕ) (kind : PieceKind) → after_gap false (drop from text) ≡ drop at text → from ≤ at → at < end → end ≤ length text → bytes_of (spelling kind (slice_range text at end)) ≡ slice_range text at end → IsPiece (spelling kind (slice_range text at end)) (drop end text) → KeepsNumber kind (slice_range text at end) → Ends text from (record { place = at; length = end - at; kind = kind }) end
@@ -144,17 +142,6 @@ is_cut text ps short utf8 h small = record {
   is_text = record { short = short; utf8 = utf8; cut = h.cut; small = any_large text ps h.spelled ∙ small };
   spelled = h.spelled;
 }
-
--- a refusal for the sake of a character is one of the cut
-pub char_refused : (text : List ℕ) (r : Refusal) → length text ≤ TEXT_BYTES → IsUtf8 text → OrMemory (IsCharRefusal text) r → OrMemory (IsCutRefusal text) r
-char_refused text (Char at) short utf8 h = (short, utf8, h)
-char_refused text Memory short utf8 h = tt
-char_refused text _ short utf8 h = absurd h
-
--- so is one for the sake of the encoding
-pub utf8_refused : (text : List ℕ) (r : Refusal) → length text ≤ TEXT_BYTES → IsUtf8Refusal text r → OrMemory (IsCutRefusal text) r
-utf8_refused text (NotUtf8 at) short h = (short, h)
-utf8_refused text _ short h = absurd h
 
 -- Each piece takes a byte.
 

@@ -21,3 +21,6 @@ mod value;
 pub use piece::{Piece, PieceKind};
 pub use pieces::Pieces;
 pub use reading::{read, read_front};
+
+#[cfg(test)]
+mod tests;

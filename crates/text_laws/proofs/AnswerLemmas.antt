@@ -1,13 +1,12 @@
 -- What a parser's answer says of the pieces, and that they have one answer.
-use Rattle.std.proofs.Common.{◌≡◌, ◌⊎◌, ℕ, zero, suc, ◌+◌, ◌-◌, ◌<◌, ◌≤◌, List, [], ◌∷◌, ◌++◌, length, take, drop, refl, sym, ap, ◌∙◌, subst, append_assoc, append-nil, length-append, inl, inr, arith, length-take, length-drop}
-use Rattle.std.specs.Prelude.{Option, Some, None}
+use Rattle.std.proofs.Common.{◌≡◌, ℕ, zero, suc, ◌+◌, ◌<◌, ◌≤◌, List, [], ◌∷◌, ◌++◌, length, take, drop, refl, sym, ap, ◌∙◌, subst, append_assoc, append-nil, length-append, inl, inr, arith, length-take, length-drop}
 use Rattle.std.proofs.lemmas.Bool.{cases_lt}
-use Rattle.std.proofs.Math.Seq.{take-append_seam, take-append-add, take-length}
+use Rattle.std.proofs.Math.Seq.{take-append_seam, take-append-add}
 use Rattle.std.proofs.lemmas.List.{take-append-drop, take-take}
 use Rattle.hs_base.specs.Pieces.{Piece}
 use Rattle.hs_base.specs.Languages.{Language, BeginsSentence, IsExpected, IsTrailing}
-use Rattle.text_laws.specs.Parsers.{Read, done, stuck, Parser, next}
-use Rattle.text_laws.specs.Reads.{Avoids, HasRead, IsStuck, Lives, Reads}
+use Rattle.text_laws.specs.Parsers.{done, stuck, Parser, next}
+use Rattle.text_laws.specs.Reads.{IsStuck, Reads}
 use Rattle.text_laws.proofs.ListLemmas.{avoids_none, not_both, same_value, same_rest}
 
 pub all_taken : (ps : List Piece) (n : ℕ) → length ps ≤ n → take n ps ≡ ps

@@ -1,11 +1,10 @@
 -- The laws of reading the one or the other.
-use Rattle.std.proofs.Common.{◌≡◌, ◌⊎◌, List, [], ◌∷◌, ◌++◌, Bool, true, false, cond, refl, sym, ap, ◌∙◌, subst, append-nil, inl, inr}
+use Rattle.std.proofs.Common.{◌≡◌, List, [], ◌∷◌, ◌++◌, Bool, true, false, cond, refl, sym, ap, ◌∙◌, subst, append-nil, inl, inr}
 use Rattle.std.specs.Prelude.{Option, Some, None}
-use Rattle.std.specs.List.{AllByRecursion}
 use Rattle.hs_base.specs.Pieces.{Piece}
-use Rattle.hs_base.specs.Languages.{Language, ◌∣◌, BeginsSentence}
-use Rattle.text_laws.specs.Parsers.{Read, done, stuck, Parser, next, choose}
-use Rattle.text_laws.specs.Reads.{Avoids, HasRead, IsStuck, Lives, Reads, Leads, Finds, BeginsWith}
+use Rattle.hs_base.specs.Languages.{Language, ◌∣◌}
+use Rattle.text_laws.specs.Parsers.{done, stuck, Parser, next, choose}
+use Rattle.text_laws.specs.Reads.{Avoids, Reads, Leads, Finds, BeginsWith}
 use Rattle.text_laws.proofs.ListLemmas.{next_same, chosen}
 
 -- a test that finds a piece fails at each other

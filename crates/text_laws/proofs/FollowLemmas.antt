@@ -1,17 +1,16 @@
 -- What languages begin with, what may stand behind them, and the laws of the combined ways to read.
-use Rattle.std.proofs.Common.{◌≡◌, ◌⊎◌, ℕ, List, [], ◌∷◌, ◌++◌, Bool, true, false, cond, not, ◌&&◌, ◌||◌, refl, sym, ap, ◌∙◌, subst, append_assoc, append-nil, inl, inr, nat_eq, arith, tests, rules}
+use Rattle.std.proofs.Common.{◌≡◌, ℕ, List, [], ◌∷◌, ◌++◌, Bool, true, false, cond, not, ◌||◌, refl, sym, ap, ◌∙◌, subst, append_assoc, inl, inr, nat_eq, arith}
 use Rattle.std.specs.Prelude.{Option, Some, None, codes}
 use Rattle.std.specs.List.{AllByRecursion, list_any, list_all}
 use Rattle.std.specs.Str.{bytes_eq, byte}
 use Rattle.std.proofs.lemmas.Slice.Eq.{bytes_eq-Decides}
-use Rattle.std.proofs.lemmas.Bool.{and_parts, both_ways}
+use Rattle.std.proofs.lemmas.Bool.{and_parts}
 use Rattle.std.proofs.lemmas.Bool.Decides.{nat_tests}
 use Prim.Native.String.{String}
 use Rattle.hs_base.specs.Pieces.{Piece, word, number as digits, symbol}
-use Rattle.hs_base.specs.Languages.{Language, One, Yields, Then, ◌∣◌, Maybe, Many, Several, Keyword, Sign, Number, After, Behind, Apart, word_says, symbol_says, number_says}
-use Rattle.text_laws.specs.Parsers.{Parser, next, ◌>>=◌, yields, one, choose, many, is_word, is_sign, keyword, sign, number, after, behind, maybe_after, several, apart}
-use Rattle.text_laws.specs.Reads.{Avoids, HasRead, IsStuck, Lives, Reads, Leads, Finds, BeginsWith}
-use Rattle.text_laws.proofs.ListLemmas.{avoids_none}
+use Rattle.hs_base.specs.Languages.{Language, Yields, Then, ◌∣◌, Maybe, Many, Several, Keyword, Sign, Number, After, Behind, Apart, word_says, symbol_says, number_says}
+use Rattle.text_laws.specs.Parsers.{Parser, next, ◌>>=◌, yields, many, is_word, is_sign, keyword, sign, number, after, behind, maybe_after, several, apart}
+use Rattle.text_laws.specs.Reads.{Avoids, Reads, Leads, Finds, BeginsWith}
 use Rattle.text_laws.proofs.ParserLemmas.{one_reads, yields_reads}
 use Rattle.text_laws.proofs.ThenLemmas.{then_reads, then_any}
 use Rattle.text_laws.proofs.ChoiceLemmas.{choose_reads}

@@ -1,13 +1,13 @@
 -- The laws of reading items one after another.
-use Rattle.std.proofs.Common.{◌≡◌, ◌⊎◌, ℕ, zero, suc, ◌<◌, ◌≤◌, ◌+◌, List, [], ◌∷◌, ◌++◌, length, Bool, true, false, cond, refl, sym, ap, ◌∙◌, subst, append_assoc, append-nil, length-append, inl, inr, arith}
+use Rattle.std.proofs.Common.{◌≡◌, ℕ, zero, suc, ◌<◌, ◌≤◌, List, [], ◌∷◌, ◌++◌, length, Bool, true, false, refl, sym, ap, ◌∙◌, subst, append_assoc, append-nil, length-append, inl, inr, arith}
 use Rattle.std.specs.Prelude.{Option, Some, None}
 use Rattle.hs_base.specs.Pieces.{Piece}
-use Rattle.hs_base.specs.Languages.{Language, Then, Many, BeginsSentence}
+use Rattle.hs_base.specs.Languages.{Language, Then, Many}
 use Rattle.text_laws.specs.Parsers.{Read, done, stuck, Parser, next, go_on, yields, items, many}
-use Rattle.text_laws.specs.Reads.{Avoids, HasRead, IsStuck, Lives, Reads, Leads, Finds, BeginsWith}
-use Rattle.text_laws.proofs.ListLemmas.{next_same, chosen, went_on, got_stuck, same_value, same_rest, stuck_rest, not_both}
+use Rattle.text_laws.specs.Reads.{Avoids, HasRead, IsStuck, Reads, Leads, Finds, BeginsWith}
+use Rattle.text_laws.proofs.ListLemmas.{next_same, went_on, got_stuck, same_value, same_rest, stuck_rest, not_both}
 use Rattle.text_laws.proofs.ThenLemmas.{first_stuck, second_stuck}
-use Rattle.text_laws.proofs.ChoiceLemmas.{not_found, is_avoided, begins_next}
+use Rattle.text_laws.proofs.ChoiceLemmas.{not_found, begins_next}
 
 -- what holds of items that are told from what stands behind them by the piece they begin with
 pub record AreItems {A : Type 0} (test : Option Piece → Bool) (s : Piece) (R : Language A) (p : Parser A) (F : List Piece) : Type 0 where
@@ -128,7 +128,7 @@ sound_turn {A} test s R p F a ps rest xs again h =
             let value : x ∷ g.0 ≡ xs = same_value g.3 in
             let last : g.1 ≡ rest = same_rest g.3 in record {
               front = first.front ++ later.front;
-              sentence = subst (λ (ys : List A). Many R (first.front ++ later.front) ys) value (first.front, later.front, first.sentence, later.sentence, refl);
+              sentence = subst (λ (ys : List A). Many R (first.front ++ later.front) ys) value (first.front, later.front, first.sentence, later.sentence, refl {a = first.front ++ later.front});
               split = first.split ∙ ap (λ (zs : List Piece). first.front ++ zs) (later.split ∙ ap (λ (zs : List Piece). later.front ++ zs) last) ∙ sym (append_assoc first.front later.front rest);
               local = λ other w.
                   let there : next other ≡ next g.1 = w ∙ sym (ap next last) in

@@ -1,6 +1,6 @@
 -- Each nonterminal of the mission text is read by its parser.
-use Rattle.std.proofs.Common.{◌≡◌, ℕ, ℤ, List, [], ◌∷◌, ◌++◌, Bool, true, false, not, cond, refl, sym, ap, subst, nat_eq}
-use Rattle.std.specs.Prelude.{Option, Some, None, codes, flat_map}
+use Rattle.std.proofs.Common.{◌≡◌, ℕ, ℤ, List, [], ◌∷◌, ◌++◌, true, false, not, cond, refl, sym, subst, nat_eq}
+use Rattle.std.specs.Prelude.{Some, None, codes}
 use Rattle.std.specs.Str.{byte}
 use Rattle.std.specs.List.{list_any, list_all}
 use Prim.Native.String.{String}
@@ -15,16 +15,16 @@ use Rattle.hs_base.specs.declared.ast.Ast.{Ast}
 use Rattle.hs_base.specs.Names.{is_name}
 use Rattle.hs_base.specs.Ranges.{range, whole}
 use Rattle.hs_base.specs.Pieces.{Piece, word, number as digits, symbol}
-use Rattle.hs_base.specs.Languages.{Language, One, Yields, Then, ◌∣◌, Maybe, Many, Several, Keyword, Sign, Number, After, Behind, Apart, number_says}
+use Rattle.hs_base.specs.Languages.{Language, Yields, Then, ◌∣◌, Maybe, Many, Several, Keyword, Sign, Number, After, Behind, Apart, number_says}
 use Rattle.hs_base.specs.MissionText.{version_says, VersionText, name_says, NameText, LimitText, RangeText, UseText, KindText, NextText, DoText, UntilText, PartText, PartsText, ScriptText, SaidText, AnswersText, PlainText, DeviceText, ValueText, SomeUseText, BeginText, VarText, OneRange, TwoRanges, RelationText, ChoiceText, FurtherChoices, ChoicesText, NeedText, GoalText, HorizonText, ClausesText, MissionText, until_done}
-use Rattle.text_laws.specs.Parsers.{Parser, next, ◌>>=◌, yields, one, is_word, is_sign, choose, many, keyword, sign, number, after, behind, maybe_after, several, apart}
+use Rattle.text_laws.specs.Parsers.{Parser, next, yields, is_word, is_sign, choose, many, keyword, sign, number, after, behind, maybe_after, several, apart}
 use Rattle.text_laws.specs.Reads.{Avoids, Reads, Leads, BeginsWith}
 use Rattle.text_laws.specs.MissionReading.{version_at, name_at, limit_at, range_at, use_at, kind_at, uses_at, next_at, do_at, until_at, part_at, parts_at, script_at, said_at, answers_at, plain_at, device_at, value_at, some_use_at, begin_at, var_at, one_range, two_ranges, relation_at, choice_at, further_at, choices_at, need_at, goal_at, horizon_at, clauses_at, mission_at}
 use Rattle.text_laws.proofs.ParserLemmas.{one_reads, yields_reads}
 use Rattle.text_laws.proofs.ThenLemmas.{then_reads, then_any}
 use Rattle.text_laws.proofs.ChoiceLemmas.{choose_reads}
 use Rattle.text_laws.proofs.ManyLemmas.{AreItems, many_reads}
-use Rattle.text_laws.proofs.FollowLemmas.{same_piece, Covers, covers_test, avoids_test, weaken, StartsIn, leads_begin, leads_yields, leads_either, leads_then, leads_many, leads_starts, begins_then, begins_keyword, begins_sign, keyword_reads, sign_reads, number_reads, finds_word, finds_sign, starts_after, starts_either, after_reads, behind_reads, keyed_items, parted_items, maybe_reads, several_reads, apart_reads}
+use Rattle.text_laws.proofs.FollowLemmas.{same_piece, Covers, covers_test, weaken, StartsIn, leads_begin, leads_yields, leads_either, leads_then, leads_many, leads_starts, begins_then, begins_keyword, keyword_reads, sign_reads, number_reads, finds_word, starts_after, starts_either, after_reads, keyed_items, parted_items, maybe_reads, several_reads, apart_reads}
 
 -- nothing is read, and these may not stand behind it
 nothing : {A : Type 0} (value : A) (G : List Piece) → Reads (Yields value) (yields value) G

@@ -1,11 +1,11 @@
 -- The laws of reading one piece, nothing, and one after the other.
-use Rattle.std.proofs.Common.{◌≡◌, ◌⊎◌, List, [], ◌∷◌, ◌++◌, refl, sym, ap, ◌∙◌, subst, append_assoc, append-nil, inl, inr}
+use Rattle.std.proofs.Common.{◌≡◌, List, [], ◌∷◌, ◌++◌, refl, sym, ap, subst}
 use Rattle.std.specs.Prelude.{Option, Some, None}
 use Rattle.hs_base.specs.Pieces.{Piece}
-use Rattle.hs_base.specs.Languages.{Language, One, Yields, Then, BeginsSentence}
-use Rattle.text_laws.specs.Parsers.{Read, done, stuck, Parser, next, go_on, yields, one, said}
-use Rattle.text_laws.specs.Reads.{Avoids, HasRead, IsStuck, Lives, Reads, Leads}
-use Rattle.text_laws.proofs.ListLemmas.{split_at, next_same, went_on, got_stuck, same_value, same_rest, not_both}
+use Rattle.hs_base.specs.Languages.{One, Yields}
+use Rattle.text_laws.specs.Parsers.{done, stuck, yields, one, said}
+use Rattle.text_laws.specs.Reads.{HasRead, IsStuck, Lives, Reads}
+use Rattle.text_laws.proofs.ListLemmas.{same_value, same_rest, not_both}
 
 said_done : {A : Type 0} (o : Option A) (p : Piece) (ps rest : List Piece) (x : A) → said o p ps ≡ done x rest → (o ≡ Some x) × (ps ≡ rest)
 said_done None p ps rest x h = absurd cc

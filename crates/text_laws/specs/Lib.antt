@@ -1,3 +1,4 @@
 pub mod Parsers
 pub mod Reads
 pub mod MissionReading
+pub mod Samples

@@ -18,7 +18,7 @@ use Rattle.hs_base.specs.declared.ast.AstVar.{AstVar}
 use Rattle.hs_base.specs.declared.ast.Use.{Use}
 use Rattle.hs_base.specs.Ranges.{range, whole}
 use Rattle.hs_base.specs.MissionText.{version_says, name_says, until_done}
-use Rattle.text_laws.specs.Parsers.{Parser, ◌>>=◌, yields, one, is_word, choose, many, keyword, sign, number, after, behind, maybe_after, several, apart}
+use Rattle.text_laws.specs.Parsers.{Parser, ◌>>=◌, yields, one, is_word, choose, many, keyword, sign, number, after, maybe_after, several, apart}
 
 unfoldable pub version_at : Parser ℕ
 version_at = one version_says

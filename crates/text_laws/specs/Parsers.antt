@@ -1,5 +1,5 @@
 -- Reading pieces from left to right.
-use Rattle.std.specs.Prelude.{◌≡◌, ℕ, zero, suc, Bool, true, false, cond, nat_eq, ℤ, List, [], ◌∷◌, length, Option, Some, None, codes}
+use Rattle.std.specs.Prelude.{ℕ, zero, suc, Bool, false, cond, nat_eq, ℤ, List, [], ◌∷◌, length, Option, Some, None, codes}
 use Rattle.std.specs.Str.{bytes_eq, byte}
 use Prim.Native.String.{String}
 use Rattle.hs_base.specs.Pieces.{Piece, word, symbol}

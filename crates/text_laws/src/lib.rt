@@ -4,8 +4,10 @@
 
 mod cutting;
 mod reading;
+mod samples;
 
 pub use cutting::{bytes_are_cut_one_way, the_cut_has_one_answer};
 pub use reading::{
     a_mission_text_spells_one_ast, a_text_has_one_answer, clauses_are_read, missions_are_read,
 };
+pub use samples::{the_camera_is_printed, the_samples_are_spelled};
