@@ -4,8 +4,8 @@ ghost use Rattle.base_laws.specs.Samples.{smallest, smallest_plan, plain_value};
 
 use super::*;
 use hs_base::{
-    Bound, Extension, Horizon, Kind, List, Memory, Mission, Name, Plan, PointId, Range, SvId,
-    TokenRef, ValId, Value, Var, LAST,
+    Bound, Extension, Horizon, Kind, LAST, List, Memory, Mission, Name, Plan, PointId, Range, SvId,
+    TokenRef, ValId, Value, Var,
 };
 use std::alloc::Global;
 use std::test::Fail;
