@@ -1,7 +1,9 @@
 -- The text of a history.
 use Rattle.std.specs.Prelude.{ℕ, ◌+◌, List, [], ◌∷◌, ◌++◌, slice_get, Option, Some, None, codes}
 use Rattle.std.specs.Fmt.{decimal, signed_decimal}
-use Rattle.hs_base.specs.Types.{Deed, Extension, Mission, Phase, Tick, Fire, Report, Handover, Stale, Late, Early, Broken, Waiting, Running, Failed, Ended}
+use Rattle.hs_base.specs.Types.{Deed, Entry, Extension, Mission, Phase, Tick, Fire, Report, Handover, Stale, Late, Early, Broken, Waiting, Running, Failed, Ended}
+use Rattle.hs_base.specs.Walks.{join_after}
+use Rattle.hs_base.specs.State.{now_of, plan_of, phase_of}
 use Rattle.hs_base.specs.Points.{Point, origin, horizon, ending, points_of}
 use Rattle.hs_base.specs.Written.{variable_name, spelled_point, point_text, bound_text, body_text}
 use Rattle.hs_base.specs.NetText.{counts_text}
@@ -41,3 +43,11 @@ phase_text Ended = codes "ended"
 -- the last line: where the executive stopped, and when
 abbrev pub stop_text : Phase → ℕ → List ℕ
 stop_text phase now = codes "stop " ++ phase_text phase ++ at_text now ++ codes "\n"
+
+-- what an entry writes behind those before it
+abbrev pub entry_text : Mission → List Entry → Entry → List ℕ
+entry_text m before e = deed_text m (now_of before) (plan_of before) e.deed
+
+-- the log: each entry in its order, and where the executive stopped
+abbrev pub log_text : Mission → List Entry → List ℕ
+log_text m h = codes "hsts log 1\n" ++ join_after (entry_text m) [] h ++ stop_text (phase_of h) (now_of h)

@@ -1,0 +1,6 @@
+pub mod Causes
+pub mod Told
+pub mod Streams
+pub mod Calls
+pub mod Forms
+pub mod Reports

@@ -1,0 +1,28 @@
+-- What the log of a history keeps of the entries so far.
+use Rattle.std.specs.Prelude.{◌≡◌, ℕ, Bool, false, nat_eq, List, [], ◌∷◌, length, Option, Some, None}
+use Rattle.hs_base.specs.declared.ids.PointId.{PointId}
+use Rattle.hs_base.specs.declared.plan.Extension.{Extension}
+use Rattle.hs_base.specs.declared.history.Entry.{Entry}
+use Rattle.hs_base.specs.declared.history.Deed.{Deed}
+use Rattle.hs_base.specs.Points.{Point, points_of, hor}
+use Rattle.hs_base.specs.State.{now_of, plan_of, executes}
+
+-- the horizon point of the newest plan, if there is one
+abbrev pub newest_horizon : List Extension → Option PointId
+newest_horizon [] = None
+newest_horizon (e ∷ es) = Some (record { 0 = hor (e ∷ es) (length (e ∷ es)) })
+
+-- the time, the newest plan's points and its horizon point after these entries
+pub record StandsAt (tick : ℕ) (points : List Point) (newest : Option PointId) (h : List Entry) : Type 0 where
+  pub tick_is : tick ≡ now_of h
+  pub points_are : points ≡ points_of (plan_of h)
+  pub newest_is : newest ≡ newest_horizon (plan_of h)
+
+-- whether the point is the one that is executed, if there is one
+abbrev pub is_point : ℕ → Option PointId → Bool
+is_point p None = false
+is_point p (Some x) = nat_eq x.0 p
+
+-- whether a deed executes the point
+abbrev pub executes_point : ℕ → Deed → Bool
+executes_point p d = is_point p (executes d)

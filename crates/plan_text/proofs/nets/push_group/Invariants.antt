@@ -1,0 +1,7 @@
+use Rattle.std.proofs.Common.{◌≡◌, ◌++◌, flat_map, take, codes}
+use Rattle.hs_base.specs.Written.{point_in}
+use Rattle.hs_base.specs.NetText.{member_line}
+use Rattle.plan_text.proofs.nets.push_group.Given as goal
+
+abbrev pub invariant-loop-member : goal.invariant-loop-member
+invariant-loop-member l = l.text ≡ l.initial.text ++ flat_map (member_line l.mission l.names) (take l.member-index l.group.members)

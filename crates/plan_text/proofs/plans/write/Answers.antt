@@ -1,0 +1,24 @@
+use Rattle.std.proofs.Common.{◌≡◌, ◌++◌, ◌∷◌, [], take, ap, codes}
+use Rattle.hs_base.specs.Points.{points_of}
+use Rattle.hs_base.specs.Walks.{join_after}
+use Rattle.hs_base.specs.PlanText.{extension_in, extension_text}
+use Rattle.plan_text.proofs.WalkLemmas.{join_after-next, take-next}
+use Rattle.plan_text.proofs.NamedLemmas.{fewer-next}
+use Rattle.plan_text.proofs.plans.write.Goals as goal
+
+pub extend-requires : goal.extend-requires
+extend-requires c =
+    record { fewer = fewer-next c.args.plan.now.extensions c.as_slice-extension-items.result.now c.loop-extension.extension-index c.extension-item.result c.loop-extension.names c.as_slice-extension-items.ensures c.loop-extension-test.true c.extension-item.is c.loop-extension.invariant.0 c.requires }
+
+pub loop-extension-preserved : goal.loop-extension-preserved
+loop-extension-preserved c =
+    let es = c.args.plan.now.extensions in
+    let i = c.loop-extension.extension-index in
+    let e = c.extension-item.result in
+    let m = c.args.mission.now in
+    let next = take-next es c.as_slice-extension-items.result.now i e c.as_slice-extension-items.ensures c.loop-extension-test.true c.extension-item.is in
+    let names : c.extend.new.self ≡ points_of (take i es ++ e ∷ []) = c.in_ok-extend.ensures.points (take i es) c.loop-extension.invariant.0 in
+    let text =
+    join_after-next (extension_text m) (take i es) e (codes "hsts plan 1\n") c.loop-extension.text (extension_in m c.loop-extension.names e) c.push_extension.new.text c.loop-extension.invariant.1 c.in_ok-push_extension.ensures
+    (ap (λ ps. extension_in m ps e) c.loop-extension.invariant.0) in
+    rw next (names, text)

@@ -1,0 +1,56 @@
+ghost use Rattle.std.specs.Prelude.{◌≡◌, ◌++◌, ◌^◌, ◌<◌, IfOk, OnOk};
+ghost use Rattle.hs_base.specs.Points.{Point, count, points_of};
+ghost use Rattle.hs_base.specs.PlanText.{extension_in, plan_text};
+ghost use Rattle.hs_base.specs.Written.{point_text as text_of_point};
+
+use crate::PointNames;
+use crate::body::push_body;
+use crate::parts::{push_number, push_point};
+use hs_base::{Extension, Memory, Mission, Plan, PointId, Text};
+use std::alloc::Global;
+
+fn push_extension(
+    text: &mut Text,
+    mission: &Mission,
+    names: &PointNames,
+    extension: &Extension,
+) -> Result<(), Memory>
+    ensures { OnOk result (text.new ≡ text.old ++ extension_in mission.now names.now extension.now) }
+{
+    text.push_bytes(b"extension ")?;
+    push_number(text, u64::from(extension.base) + 1)?;
+    text.push_bytes(b"\n")?;
+    push_body(text, mission, names, extension)
+}
+
+/// The text of a plan. A name that the mission doesn't have is left out.
+pub fn write(alloc: Global, mission: &Mission, plan: &Plan) -> Result<Text, Memory>
+    requires { count plan.now.extensions < 2 ^ 32 }
+    ensures { IfOk result (λ text. text ≡ plan_text mission.now plan.now.extensions) }
+{
+    let mut text = Text::new(alloc);
+    let mut names = PointNames::new(alloc)?;
+    text.push_bytes(b"hsts plan 1\n")?;
+    for extension in plan.extensions.as_slice() {
+        push_extension(&mut text, mission, &names, extension)?;
+        names.extend(extension)?;
+    }
+    text.push_bytes(b"end\n")?;
+    Ok(text)
+}
+
+/// A point of a plan as texts spell it: `Z`, `H 1` or `camera 0`.
+pub fn point_text(
+    alloc: Global,
+    mission: &Mission,
+    plan: &Plan,
+    point: PointId,
+) -> Result<Text, Memory>
+    requires { count plan.now.extensions < 2 ^ 32 }
+    ensures { IfOk result (λ text. text ≡ text_of_point mission.now plan.now.extensions point.0) }
+{
+    let mut text = Text::new(alloc);
+    let names = PointNames::of(alloc, plan.extensions.as_slice())?;
+    push_point(&mut text, mission, &names, point)?;
+    Ok(text)
+}

@@ -1,0 +1,6 @@
+pub mod Broken
+pub mod Causes
+pub mod Distances
+pub mod Folding
+pub mod Ranges
+pub mod Rows

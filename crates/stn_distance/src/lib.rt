@@ -1,0 +1,20 @@
+//! Schedules and distances of simple temporal networks.
+#![tactic(auto)]
+
+mod broken;
+mod closure;
+mod column;
+mod dist;
+mod folding;
+mod lowering;
+mod nearest;
+mod rows;
+mod search;
+#[cfg(test)]
+mod tests;
+mod trace;
+
+pub use broken::Broken;
+pub use closure::{ROWS, close, close_fixed};
+pub use dist::Dist;
+pub use search::{POINTS, solve, solve_from};

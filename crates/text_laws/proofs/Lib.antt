@@ -1,0 +1,10 @@
+pub mod ListLemmas
+pub mod ParserLemmas
+pub mod ThenLemmas
+pub mod ChoiceLemmas
+pub mod ManyLemmas
+pub mod FollowLemmas
+pub mod MissionLemmas
+pub mod PieceLemmas
+pub mod AnswerLemmas
+pub mod RefusalLemmas
