@@ -128,7 +128,7 @@ EventReply m h (fire x) reply = PointReply m h x reply (RefusedIf (watched m h x
 EventReply m h (report x) reply = PointReply m h x reply (RefusedIf (not (watched m h x)) not_observed reply (ReportReply m h x reply))
 EventReply m h (broken d) reply = VariableReply m d reply (reply ≡ done)
 EventReply m h (handover m2 es) reply = HandoverReply m h m2 es reply
-EventReply m h look reply = (reply ≡ memory) ⊎ (reply ≡ seen (snapshot_of h))
+EventReply m h look reply = (reply ≡ memory) ⊎ (reply ≡ seen (snapshot_of m h))
 EventReply m h (line v) reply = VariableReply m v reply (reply ≡ shown (line_of m h v))
 
 abbrev pub is_over : Phase → Bool

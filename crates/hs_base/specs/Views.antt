@@ -7,7 +7,9 @@ use Rattle.hs_base.specs.Bounds.{is_fixed, on_some}
 use Rattle.hs_base.specs.Fits.{Times}
 use Rattle.hs_base.specs.State.{plan_of, count_at, executed, tick_at}
 
+-- the newest plan with its mission, the time, what was executed since, and the number of entries
 pub record Snapshot : Type 0 where
+  pub mission : Mission
   pub plan : List Extension
   pub since : ℤ
   pub fixed : List Time
@@ -22,8 +24,8 @@ abbrev pub newly_executed : List Entry → List Time
 newly_executed h = flat_map (λ x. cond (is_fixed (plan_of h) x) [] (time_if (executed h) x)) (numbers_from 1 (count_at h - 1))
 
 -- what a look sees
-abbrev pub snapshot_of : List Entry → Snapshot
-snapshot_of h = record { plan = plan_of h; since = tick_at h; fixed = newly_executed h; front = length h }
+abbrev pub snapshot_of : Mission → List Entry → Snapshot
+snapshot_of m h = record { mission = m; plan = plan_of h; since = tick_at h; fixed = newly_executed h; front = length h }
 
 -- a timeline's current token with its end and the time of its start, the time now, the next horizon point, the
 -- number of extensions and the newest horizon's tick
