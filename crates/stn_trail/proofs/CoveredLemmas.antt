@@ -52,7 +52,7 @@ AreCovered-raised rows times waiting c left z h inside apart due later =
             (new_is b.to.0 s) (Contains-push waiting new)))
         | inr n ↦ elim (h.each b i) [
           | inl holds ↦ inl (kept b n holds)
-          | inr (inl waits) ↦ inr (inl (subst (λ (r : Raised). Contains (waiting ++ new ∷ []) r)
+          | inr (inl waits) ↦ inr (inl (subst (λ (r : Raised). Contains (waiting ++ new ∷ []) r) {x = entry_of times b.to.0}
               (ap (λ (t : ℤ). record { point = b.to.0; time = t }) (sym (other b.to.0 n))) (Contains-append_left waiting (new ∷ []) (entry_of times b.to.0) waits)))
           | inr (inr looks) ↦ elim (Contains-cons_cases c left b looks) [
             | inl same ↦ inl (let e = other b.to.0 n in

@@ -7,11 +7,13 @@ use Rattle.stn_trail.specs.declared.part.Step.{Step}
 use Rattle.stn_trail.specs.Held.{grown, added}
 use Rattle.stn_trail.specs.History.{parts_of}
 
+-- the bounds of parts one after another
 pub added-append : (ps qs : List Part) → added (ps ++ qs) ≡ added ps ++ added qs
 added-append [] qs = refl
 added-append (Grown ∷ ps) qs = added-append ps qs
 added-append (Added b ∷ ps) qs = ap (λ (bs : List Bound). b ∷ bs) (added-append ps qs)
 
+-- the points of parts one after another
 pub grown-append : (ps qs : List Part) → grown (ps ++ qs) ≡ grown ps + grown qs
 grown-append [] qs = omega arith
 grown-append (Grown ∷ ps) qs = let ih = grown-append ps qs in omega arith
