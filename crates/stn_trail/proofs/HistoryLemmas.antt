@@ -1,17 +1,14 @@
-use Rattle.std.proofs.Common.{◌≡◌, ℕ, zero, suc, ◌+◌, ◌-◌, ◌<◌, ◌≤◌, List, [], ◌∷◌, ◌++◌, length, take, drop, map, set, get_or, All, ℤ, pos, ◌-ℤ◌, ◌≤ℤ◌, refl, ap, ◌∙◌, sym, subst, arith, inl, inr, length-set, replicate}
-use Rattle.std.specs.List.{AllByRecursion}
+use Rattle.std.proofs.Common.{◌≡◌, ℕ, ◌+◌, ◌<◌, ◌≤◌, List, [], ◌∷◌, ◌++◌, length, take, drop, map, set, get_or, All, ℤ, pos, refl, ap, ◌∙◌, sym, subst, arith, inl, inr, length-set, replicate}
 use Rattle.std.proofs.lemmas.Int.{ints}
 use Rattle.std.proofs.lemmas.Bool.{cases_lt, cases_eq}
-use Rattle.std.proofs.lemmas.List.{map-append, take-map, take_all, take-append-le, take-take, take_at, drop_all, drop-append-le, take-append-drop, get_or_append_left, get_or_push, get_or_past, get_or_default, get_or-take, get_or-replicate, length_push, length-map, length-take-le, set-append_left}
-use Rattle.std.proofs.lemmas.List.Elements.{All-weaker, All-contains, All-from_recursion, recursion_from_All, All-tail, All-drop}
+use Rattle.std.proofs.lemmas.List.{map-append, take_all, take-append-le, drop_all, drop-append-le, take-append-drop, get_or_append_left, get_or_push, get_or_past, get_or_default, get_or-replicate, length_push, length-map, length-take-le, set-append_left}
+use Rattle.std.proofs.lemmas.List.Elements.{All-weaker, All-from_recursion, recursion_from_All, All-tail, All-drop}
 use Rattle.hs_base.specs.declared.net.Bound.{Bound}
 use Rattle.hs_base.specs.Schedule.{Schedule, time_of, Holds, Meets}
-use Rattle.stn_distance.specs.Ranges.{IsInRange}
 use Rattle.stn_trail.specs.declared.moves.Move.{Move}
-use Rattle.stn_trail.specs.declared.part.Part.{Part}
 use Rattle.stn_trail.specs.declared.part.Step.{Step}
 use Rattle.stn_trail.specs.Moves.{restored, times_at, KeepsPast}
-use Rattle.stn_trail.specs.Held.{grown, added}
+use Rattle.stn_trail.specs.Held.{added}
 use Rattle.stn_trail.specs.History.{parts_of, moves_at, StandsAt, IsHistory}
 use Rattle.stn_trail.proofs.MoveLemmas.{restored-append}
 

@@ -1,13 +1,13 @@
-use Rattle.std.proofs.Common.{◌≡◌, ℕ, ◌<◌, ◌≤◌, ◌+◌, List, [], ◌∷◌, ◌++◌, length, vec_len, drop, set, get_or, ℤ, pos, ◌-ℤ◌, ◌<ℤ◌, ◌≤ℤ◌, refl, ap, ◌∙◌, sym, subst, arith, Contains, get_or-set_other, length-set}
+use Rattle.std.proofs.Common.{◌≡◌, ℕ, ◌<◌, ◌≤◌, ◌+◌, List, [], ◌∷◌, ◌++◌, length, vec_len, drop, set, get_or, ℤ, pos, ◌-ℤ◌, ◌<ℤ◌, ◌≤ℤ◌, ap, ◌∙◌, sym, subst, arith, Contains, get_or-set_other}
 use Rattle.std.proofs.lemmas.Int.{ints}
 use Rattle.std.proofs.lemmas.List.{drop_more}
 use Rattle.std.proofs.lemmas.List.Elements.{Contains-get_or, All-push}
 use Rattle.hs_base.specs.declared.net.Bound.{Bound}
-use Rattle.hs_base.specs.Schedule.{time_of, Holds}
+use Rattle.hs_base.specs.Schedule.{time_of}
 use Rattle.stn_trail.specs.declared.moves.Move.{Move}
 use Rattle.stn_trail.specs.declared.times.Times.{Times}
 use Rattle.stn_trail.specs.declared.raised.Raised.{Raised}
-use Rattle.stn_trail.specs.Moves.{times_at, KeepsPast}
+use Rattle.stn_trail.specs.Moves.{KeepsPast}
 use Rattle.stn_trail.specs.Rows.{row_at, IsIn, AreRows}
 use Rattle.stn_trail.specs.Covered.{AreCovered, AreBelow}
 use Rattle.stn_trail.proofs.CoveredLemmas.{AreCovered-kept, AreCovered-raised}

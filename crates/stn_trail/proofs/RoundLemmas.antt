@@ -1,10 +1,8 @@
-use Rattle.std.proofs.Common.{◌≡◌, ◌≢◌, ℕ, zero, suc, ◌<◌, ◌≤◌, ◌+◌, ◌-◌, List, [], ◌∷◌, ◌++◌, length, drop, length-drop, get_or, get_or-drop, ℤ, pos, ◌+ℤ◌, ◌<ℤ◌, refl, ap, ◌∙◌, sym, subst, arith, All, AllPairs}
+use Rattle.std.proofs.Common.{◌≡◌, ◌≢◌, ℕ, zero, suc, ◌<◌, List, [], ◌∷◌, ◌++◌, length, drop, length-drop, get_or, ℤ, pos, ◌+ℤ◌, ◌<ℤ◌, refl, ap, ◌∙◌, sym, subst, arith, All, AllPairs}
 use Rattle.std.proofs.lemmas.Int.{ints}
-use Rattle.std.proofs.lemmas.List.{get_or_default, drop_more}
 use Rattle.std.proofs.lemmas.List.Elements.{All-push}
 use Rattle.hs_base.specs.declared.ids.PointId.{PointId}
 use Rattle.hs_base.specs.declared.net.Bound.{Bound}
-use Rattle.hs_base.specs.Schedule.{bound}
 use Rattle.hs_base.specs.Cycles.{Leads, total}
 use Rattle.stn_trail.specs.Rows.{IsIn}
 use Rattle.stn_trail.specs.Rounds.{IsRound}

@@ -1,5 +1,4 @@
-use Rattle.std.proofs.Common.{◌≡◌, ℕ, zero, suc, ◌+◌, ◌-◌, ◌<◌, ◌≤◌, List, [], ◌∷◌, ◌++◌, length, take, drop, map, set, get_or, All, Contains, ℤ, pos, refl, ap, ◌∙◌, sym, subst, arith, inl, inr, length-set, replicate}
-use Rattle.std.specs.List.{AllByRecursion}
+use Rattle.std.proofs.Common.{◌≡◌, ℕ, ◌+◌, ◌-◌, ◌<◌, ◌≤◌, List, [], ◌∷◌, ◌++◌, length, take, drop, set, get_or, All, Contains, ℤ, pos, refl, ap, ◌∙◌, sym, subst, arith, inl, inr, length-set, replicate}
 use Rattle.std.proofs.lemmas.Int.{ints}
 use Rattle.std.proofs.lemmas.List.{map-append, append-nil, drop_at, get_or-take, get_or-replicate, length_push, length-take-le, take-append-le, length-replicate}
 use Rattle.std.proofs.lemmas.List.Elements.{All-push, All-weaker, All-contains, All-from_recursion, recursion_from_All, Contains-push, Contains-push_cases}
@@ -10,11 +9,11 @@ use Rattle.stn_trail.specs.declared.moves.Move.{Move}
 use Rattle.stn_trail.specs.declared.part.Part.{Part}
 use Rattle.stn_trail.specs.declared.part.Part.TheVariants.{Grown, Added}
 use Rattle.stn_trail.specs.declared.part.Step.{Step}
-use Rattle.stn_trail.specs.Rows.{row_at, IsIn, AreRowsOf}
+use Rattle.stn_trail.specs.Rows.{row_at, AreRowsOf}
 use Rattle.stn_trail.specs.Covered.{AreCovered}
-use Rattle.stn_trail.specs.Moves.{restored, times_at, KeepsPast}
+use Rattle.stn_trail.specs.Moves.{restored, KeepsPast}
 use Rattle.stn_trail.specs.Held.{grown, added}
-use Rattle.stn_trail.specs.History.{parts_of, StandsAt, IsHistory, IsTrail}
+use Rattle.stn_trail.specs.History.{parts_of, IsTrail}
 use Rattle.stn_trail.specs.Widens.{Widens}
 use Rattle.stn_trail.proofs.MoveLemmas.{KeepsPast-same}
 use Rattle.stn_trail.proofs.PartLemmas.{added-append, grown-append}
