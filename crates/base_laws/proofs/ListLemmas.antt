@@ -2,7 +2,7 @@
 use Rattle.std.proofs.Common.{◌≡◌, ℕ, zero, suc, ◌+◌, ◌<◌, List, [], ◌∷◌, ◌++◌, length, take, drop, Some, refl, sym, ap, ◌∙◌, subst, arith, append_assoc, append-nil}
 use Rattle.std.specs.Prelude.{slice_get, flat_map}
 use Rattle.std.specs.List.{AllByRecursion}
-use Rattle.hs_base.specs.Walks.{join_after, EachAfter}
+use Rattle.hs_base.specs.Walks.{join_after, EachAfter, IsInOrder}
 
 -- induction along a list, each element after those before it
 pub snoc_induction : {X : Type 0} (P : List X → Type 0) (R : List X → X → Type 0) → ((before : List X) (x : X) → R before x → P before → P (before ++ x ∷ [])) → (before xs : List X) → P before → EachAfter R before xs → P (before ++ xs)
@@ -94,3 +94,32 @@ pub slice_get-split : {X : Type 0} (xs : List X) (i : ℕ) (x : X) → slice_get
 slice_get-split [] i x is = absurd (cc)
 slice_get-split (y ∷ xs) zero x is = let same : y ≡ x = cc in ap (λ z. z ∷ xs) same
 slice_get-split (y ∷ xs) (suc i) x is = ap (λ l. y ∷ l) (slice_get-split xs i x is)
+
+-- two facts of each element
+pub EachAfter-both : {X : Type 0} (R S : List X → X → Type 0) (before xs : List X) → EachAfter R before xs → EachAfter S before xs → EachAfter (λ b x. R b x × S b x) before xs
+EachAfter-both R S before [] r s = tt
+EachAfter-both R S before (x ∷ xs) r s = ((r.0, s.0), EachAfter-both R S (before ++ x ∷ []) xs r.1 s.1)
+
+-- what holds of each element after those before it holds of the one at a place
+pub each_after_at : {X : Type 0} (P : List X → X → Type 0) (before xs : List X) (j : ℕ) (x : X) → EachAfter P before xs → slice_get xs j ≡ Some x → P (before ++ take j xs) x
+each_after_at P before [] j x h is = absurd (cc)
+each_after_at P before (y ∷ xs) zero x h is =
+    let same : y ≡ x = cc in
+    subst (λ z. P (before ++ []) z) same (subst (λ b. P b y) (sym (append-nil before)) h.0)
+each_after_at P before (y ∷ xs) (suc j) x h is = subst (λ b. P b x) (append_assoc before (y ∷ []) (take j xs)) (each_after_at P (before ++ y ∷ []) xs j x h.1 is)
+
+-- a place of the front of a list
+pub slice_get-take : {X : Type 0} (xs : List X) (i j : ℕ) → i < j → slice_get (take j xs) i ≡ slice_get xs i
+slice_get-take xs i zero less = absurd (omega arith)
+slice_get-take [] i (suc j) less = refl
+slice_get-take (x ∷ xs) zero (suc j) less = refl
+slice_get-take (x ∷ xs) (suc i) (suc j) less = slice_get-take xs i j (omega arith)
+
+-- of two elements of a list in order the earlier comes before the later
+pub in_order : {X : Type 0} (R : X → X → Type 0) (xs : List X) (i j : ℕ) (a b : X) → IsInOrder R xs → slice_get xs i ≡ Some a → slice_get xs j ≡ Some b → i < j → R a b
+in_order R xs i j a b h at to less = each_at (λ x. R x b) (take j xs) i a (each_after_at (λ before x. AllByRecursion (λ y. R y x) before) [] xs j b h to) (slice_get-take xs i j less ∙ at)
+
+-- what follows from what holds of each
+pub each_weaker : {X : Type 0} (P Q : X → Type 0) → ((x : X) → P x → Q x) → (xs : List X) → AllByRecursion P xs → AllByRecursion Q xs
+each_weaker P Q f [] h = tt
+each_weaker P Q f (x ∷ xs) h = (f x h.0, each_weaker P Q f xs h.1)

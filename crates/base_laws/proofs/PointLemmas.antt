@@ -274,3 +274,28 @@ pub token_of_ref : (before after : List Kind) (k : Kind) → slice_get (timeline
 token_of_ref before after k =
     ap (λ l. slice_get l (length (timeline_of before k.sv.0))) (timeline-append before (k ∷ after) k.sv.0)
     ∙ (rw (eq-eqb k.sv.0 k.sv.0 refl) (slice_get-middle (timeline_of before k.sv.0) k (timeline_of after k.sv.0)))
+
+-- the timeline of a token's own variable, with that token
+pub timeline_own : (ts : List Kind) (t : Kind) → timeline_of (ts ++ t ∷ []) t.sv.0 ≡ timeline_of ts t.sv.0 ++ t ∷ []
+timeline_own ts t = timeline-append ts (t ∷ []) t.sv.0 ∙ rw (eq-eqb t.sv.0 t.sv.0 refl) refl
+
+-- a token that the new ones bring has its name among theirs
+pub ref_of_new : (ts us : List Kind) (v i : ℕ) → length (timeline_of ts v) ≤ i → i < length (timeline_of (ts ++ us) v) → (j : ℕ) × (slice_get (refs_after ts us) j ≡ Some (record { sv = record { 0 = v }; place = i }))
+ref_of_new ts [] v i old new = absurd (let e = ap (λ l. length (timeline_of l v)) (append-nil ts) in omega arith)
+ref_of_new ts (u ∷ us) v i old new =
+    let more : i < length (timeline_of ((ts ++ u ∷ []) ++ us) v) = rw (append_assoc ts (u ∷ []) us) new in
+    let one : length (timeline_of (ts ++ u ∷ []) v) ≡ length (timeline_of ts v) + length (timeline_of (u ∷ []) v) = rw (timeline-append ts (u ∷ []) v) (length-append _ _) in
+    elim (cases_lt i (length (timeline_of (ts ++ u ∷ []) v))) [
+      | inl first ↦ elim (cases_Bool (nat_eq u.sv.0 v)) [
+        | inl same ↦
+            let is : u.sv.0 ≡ v = eqb-true _ _ same in
+            let single : length (timeline_of (u ∷ []) v) ≡ 1 = rw same refl in
+            let place : length (timeline_of ts v) ≡ i = omega arith in
+            let name : ℕ → ℕ → TokenRef = λ w n. record { sv = record { 0 = w }; place = n } in
+            (0, ap (λ (w : ℕ). Some (name w (length (timeline_of ts w)))) is ∙ ap (λ (n : ℕ). Some (name v n)) place)
+        | inr other ↦
+            let none : length (timeline_of (u ∷ []) v) ≡ 0 = rw other refl in
+            absurd (omega arith)
+      ]
+      | inr later ↦ let r = ref_of_new (ts ++ u ∷ []) us v i later more in (suc r.0, r.1)
+    ]

@@ -1,15 +1,12 @@
 -- Values that ask for nothing, and those that a parse finds.
-use Rattle.std.proofs.Common.{◌≡◌, ◌∙◌, ◌++◌, ◌≤◌, ◌+◌, ◌⊎◌, ℕ, Bool, cond, true, false, List, [], ◌∷◌, map, length, length-append, append_assoc, Option, Some, None, ap, refl, sym, subst, codes, arith, inl, inr, slice_get}
-use Rattle.std.specs.Prelude.{option_and_then, option_map}
+use Rattle.std.proofs.Common.{◌≡◌, ◌∙◌, ◌++◌, ◌≤◌, ◌⊎◌, List, [], ◌∷◌, map, length, length-append, append_assoc, Some, None, ap, refl, subst, codes, arith, inl, inr, slice_get}
 use Rattle.std.proofs.lemmas.Bool.{cases_Bool}
 use Rattle.clap.specs.Walk.{Row, first_of}
 use Rattle.clap.specs.declared.parser.matches.ValueSource.TheVariants.{CommandLine}
 use Rattle.clap.specs.declared.builder.value_parser.Reading.TheVariants.{AsWritten}
-use Rattle.command_line.specs.declared.request.Command.{Command}
-use Rattle.command_line.specs.declared.request.Request.{Request}
 use Rattle.command_line.specs.Found.{request_at}
-use Rattle.command_line.specs.Words.{Given, Word, asked_by, budget_if_absent, budget_of, command_of, number_of, once, once_or, request_of, seed_if_absent, seed_of, size_if_absent, size_of, values_of}
-use Rattle.command_line.proofs.GivenLemmas.{IsOnce, has, is_named, no_budget, no_seed, no_size, once_bad, once_first, once_many, once_or_bad, once_or_first, once_or_many, values_of-append, values_of-here}
+use Rattle.command_line.specs.Words.{Given, Word, asked_by, budget_if_absent, budget_of, command_of, number_of, once, once_or, seed_if_absent, seed_of, size_if_absent, size_of, values_of}
+use Rattle.command_line.proofs.GivenLemmas.{IsOnce, is_named, no_budget, no_seed, no_size, once_bad, once_first, once_many, once_or_bad, once_or_first, once_or_many, values_of-append, values_of-here}
 
 -- the four names that values stand under
 abbrev pub IsName : Word → Type 0

@@ -1,14 +1,13 @@
 -- What values ask for: each name's values, read at most once.
-use Rattle.std.proofs.Common.{◌≡◌, ◌∙◌, ◌++◌, ◌≤◌, ◌+◌, ◌⊎◌, ℕ, Bool, cond, true, false, true≢false, List, [], ◌∷◌, map, filter, length, length-append, append_assoc, append-nil, Option, Some, None, ap, ap₂, refl, sym, subst, codes, arith, inl, inr, rules, slice_get}
+use Rattle.std.proofs.Common.{◌≡◌, ◌++◌, ◌≤◌, ℕ, Bool, cond, true, false, true≢false, List, [], ◌∷◌, map, filter, length, append-nil, Option, Some, None, ap, refl, sym, subst, arith, inl, inr, slice_get}
 use Rattle.std.specs.List.{list_any}
 use Rattle.std.proofs.lemmas.Bool.{cases_Bool}
 use Rattle.std.specs.Str.{bytes_eq}
 use Rattle.std.specs.Prelude.{option_and_then}
 use Rattle.std.proofs.lemmas.Slice.Eq.{bytes_eq-Decides}
 use Rattle.command_line.specs.declared.request.Command.{Command}
-use Rattle.command_line.specs.declared.request.Request.{Request}
-use Rattle.command_line.specs.Found.{read_or, request_at}
-use Rattle.command_line.specs.Words.{Given, Word, asked_by, budget_if_absent, budget_of, command_of, once, once_or, request_of, seed_if_absent, seed_of, size_if_absent, size_of, values_of}
+use Rattle.command_line.specs.Found.{read_or}
+use Rattle.command_line.specs.Words.{Given, Word, once, once_or, request_of, values_of}
 
 -- ---- a request wants all its parts
 

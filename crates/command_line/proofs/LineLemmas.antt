@@ -1,27 +1,20 @@
 -- What `clap` makes of the line, one word at a time.
-use Rattle.std.proofs.Common.{◌≡◌, ◌∙◌, ◌++◌, ◌&&◌, ◌||◌, ℕ, Bool, cond, true, false, true≢false, List, [], ◌∷◌, map, length, length-append, append-nil, append_assoc, Option, Some, None, ap, ap₂, refl, sym, subst, codes, arith, suc, inl, inr}
-use Rattle.std.specs.Prelude.{option_and_then}
-use Rattle.std.specs.List.{fold}
+use Rattle.std.proofs.Common.{◌≡◌, ◌∙◌, ◌++◌, ◌||◌, true, false, true≢false, List, [], ◌∷◌, length-append, append-nil, Option, Some, None, ap, refl, sym, subst, codes, arith, inl, inr}
 use Rattle.std.specs.Str.{bytes_eq}
 use Rattle.std.proofs.lemmas.Bool.{cases_Bool}
 use Rattle.std.proofs.lemmas.List.{map-append}
 use Rattle.std.proofs.lemmas.Slice.Eq.{bytes_eq-Decides}
-use Rattle.clap.specs.Lexer.{long_of, name_and_value, short_of}
-use Rattle.clap.specs.Walk.{Held, Outcome, Row, Rule, Text, Waiting, Walk, action_of, arg_by_id, arg_by_index, arg_by_long, arg_by_short, at_row, bundle, bundle_met, has_row, idle, more_values, most_values, option, settled, takes_values, used, walk_from, walked, with_values, without, word_met}
-use Rattle.clap.specs.Walk.{plain as no_flag}
+use Rattle.clap.specs.Walk.{Held, Row, Rule, Text, arg_by_id, arg_by_long, at_row, has_row, more_values, most_values, settled, takes_values, used, with_values, without}
 use Rattle.clap.specs.Kinds.{Kinds, or_else}
-use Rattle.clap.specs.Faults.{bundle_fault, flags_fault, repeat_fault, settle_fault, turn_fault, use_fault, walk_fault}
+use Rattle.clap.specs.Faults.{repeat_fault, settle_fault, use_fault}
 use Rattle.clap.specs.Simple.{Shape, built, filled, new_rule, with_index}
-use Rattle.clap.specs.Words.{is_simple_and_free}
-use Rattle.clap.specs.declared.error.kind.ErrorKind.{ErrorKind}
-use Rattle.clap.specs.declared.error.kind.ErrorKind.TheVariants.{ArgumentConflict, InvalidValue, UnknownArgument}
+use Rattle.clap.specs.declared.error.kind.ErrorKind.TheVariants.{ArgumentConflict, InvalidValue}
 use Rattle.clap.specs.declared.parser.matches.ValueSource.TheVariants.{CommandLine}
 use Rattle.clap.specs.declared.builder.value_parser.Reading.TheVariants.{AsWritten}
 use Rattle.command_line.specs.Line.{line_app}
 use Rattle.command_line.specs.Words.{Given, Word, is_option}
 use Rattle.command_line.proofs.GivenLemmas.{IsOnce, has, once_more, some_value, values_of-append, values_of-here}
 use Rattle.command_line.proofs.AskedLemmas.{Dead, IsName, row, rows, twice_dead}
-use Rattle.command_line.proofs.SortLemmas.{IsNoFlag}
 
 -- the line as built
 abbrev pub line : Shape

@@ -1,10 +1,10 @@
 -- What a parse of the line answers, by what the words ask for.
-use Rattle.std.proofs.Common.{◌≡◌, ◌∙◌, ◌||◌, Bool, cond, true, false, List, [], ◌∷◌, Option, Some, None, ap, ap₂, codes, inl, inr, refl, sym}
+use Rattle.std.proofs.Common.{◌≡◌, ◌∙◌, ◌||◌, Bool, cond, true, false, List, [], ◌∷◌, Option, Some, None, ap, codes, inl, inr, refl, sym}
 use Rattle.std.specs.Prelude.{is_some}
 use Rattle.std.specs.List.{AllByRecursion, fold}
 use Rattle.clap.specs.Walk.{Held, Row, Rule, Text, Walk, first_of, has_row, idle, settled, walked, rows_of, with_default}
 use Rattle.clap.specs.Kinds.{HasKind, IsAmong, Kinds, or_else}
-use Rattle.clap.specs.Faults.{check_fault, default_fault, defaults_fault, entered_fault, fault_of, is_simple_and_free, settle_fault, walk_fault}
+use Rattle.clap.specs.Faults.{default_fault, defaults_fault, entered_fault, fault_of, is_simple_and_free, settle_fault, walk_fault}
 use Rattle.clap.specs.Simple.{App, HasMatchesOf, built, entered, is_simple, matches_of}
 use Rattle.clap.specs.Matches.{first_value, found_of}
 use Rattle.clap.specs.Values.{kind_of}

@@ -1,22 +1,22 @@
 -- What `clap` finds in a whole line is what the words give.
-use Rattle.std.proofs.Common.{◌≡◌, ◌∙◌, ◌++◌, ◌≤◌, ◌||◌, ◌⊎◌, ℕ, Bool, true, false, true≢false, List, [], ◌∷◌, map, length, length-append, append_assoc, append-nil, Option, Some, None, ap, refl, sym, subst, codes, arith, inl, inr}
+use Rattle.std.proofs.Common.{◌≡◌, ◌∙◌, ◌++◌, ◌||◌, Bool, true, false, true≢false, List, [], ◌∷◌, append_assoc, append-nil, Option, Some, None, ap, refl, sym, subst, codes, inl, inr}
 use Rattle.std.specs.Prelude.{option_and_then, if◌then◌else◌}
-use Rattle.std.specs.List.{fold, list_any}
+use Rattle.std.specs.List.{fold}
 use Rattle.std.specs.Str.{bytes_eq}
 use Rattle.std.proofs.lemmas.Bool.{cases_Bool}
-use Rattle.clap.specs.Walk.{Held, Row, Text, Waiting, Walk, first_of, idle, option, settled, walked}
+use Rattle.clap.specs.Walk.{Held, Row, Text, Walk, first_of, idle, option, settled, walked}
 use Rattle.clap.specs.Walk.{plain_word as to_waiting, value as positional_value}
 use Rattle.clap.specs.Kinds.{Kinds, or_else}
-use Rattle.clap.specs.Faults.{settle_fault, turn_fault, walk_fault}
-use Rattle.clap.specs.Lexer.{long_of, name_and_value}
+use Rattle.clap.specs.Faults.{settle_fault, walk_fault}
+use Rattle.clap.specs.Lexer.{long_of}
 use Rattle.command_line.specs.declared.request.Request.{Request}
 use Rattle.command_line.specs.Found.{request_at}
-use Rattle.command_line.specs.Words.{Given, Word, asked_by, begins_with, give, given_alone, given_in, hyphened, is_option, long_piece, piece_of, words_of}
-use Rattle.command_line.proofs.GivenLemmas.{IsOnce, has, nothing_once, once_more, some_value, values_of-append, values_of-here}
-use Rattle.command_line.proofs.AskedLemmas.{Dead, IsName, IsWrong, asked_at, rows, wrong_dead}
-use Rattle.command_line.proofs.SortLemmas.{IsNoFlag, LongParts, Sort, long_parts, name_alone, name_with_value, end_word, hyphen_word, long_word, plain_word, short_word, sort_of}
-use Rattle.command_line.proofs.LineLemmas.{Known, KnownOption, OptionOrNone, first_use, Settling, clash, command_known, given_twice, joins, kept, known_option, line, option_or_none, settled_already, settling, unknown, waiting_fault}
-use Rattle.command_line.proofs.StepLemmas.{Goes, IsMet, Stops, command_goes, ShortWord, command_stops, ends_options, ends_waiting, option_goes, option_stops, refused_short, second_stops, short_stops, short_word_of, stand, unknown_stops, value_goes, value_short, valued_goes, valued_stops, value_plain, value_trailing}
+use Rattle.command_line.specs.Words.{Given, Word, asked_by, give, given_alone, given_in, words_of}
+use Rattle.command_line.proofs.GivenLemmas.{IsOnce, has, nothing_once, once_more}
+use Rattle.command_line.proofs.AskedLemmas.{Dead, IsName, asked_at, wrong_dead}
+use Rattle.command_line.proofs.SortLemmas.{Sort, long_parts, name_alone, name_with_value, end_word, hyphen_word, long_word, plain_word, short_word, sort_of}
+use Rattle.command_line.proofs.LineLemmas.{Known, KnownOption, Settling, clash, command_known, given_twice, joins, kept, known_option, line, option_or_none, settled_already, settling, unknown, waiting_fault}
+use Rattle.command_line.proofs.StepLemmas.{Goes, IsMet, Stops, command_goes, command_stops, ends_options, ends_waiting, option_goes, option_stops, refused_short, second_stops, short_stops, short_word_of, stand, unknown_stops, value_goes, value_short, valued_goes, valued_stops, value_plain, value_trailing}
 
 -- ---- the whole walk
 

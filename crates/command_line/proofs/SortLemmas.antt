@@ -1,13 +1,12 @@
 -- The sorts of words, by their first two bytes.
-use Rattle.std.proofs.Common.{◌≡◌, ◌∙◌, ◌&&◌, ◌⊎◌, ℕ, Bool, cond, true, false, true≢false, List, [], ◌∷◌, length, Option, Some, None, ap, refl, sym, subst, codes, arith, inl, inr, nat_eq, nat_le, eq-eqb}
+use Rattle.std.proofs.Common.{◌≡◌, ◌&&◌, ◌⊎◌, ℕ, Bool, true, false, true≢false, [], ◌∷◌, length, Some, None, ap, refl, sym, subst, codes, inl, inr, nat_eq, nat_le}
 use Rattle.std.specs.List.{after_first, before_first, list_all, list_any}
 use Rattle.std.specs.Str.{bytes_eq}
 use Rattle.std.specs.Char.{is_ascii_digit}
 use Rattle.std.proofs.lemmas.Bool.{cases_Bool, eqb-false, eqb-true, ne_eqb}
-use Rattle.std.proofs.lemmas.Slice.Eq.{bytes_eq-Decides}
 use Rattle.std.proofs.Math.Numerals.{one-add}
 use Rattle.clap.specs.Lexer.{long_of, name_and_value, short_of}
-use Rattle.command_line.specs.Words.{Word, begins_with, hyphened, is_equals_sign, long_piece, number_of, option, option_with, piece_of, plain}
+use Rattle.command_line.specs.Words.{Word, begins_with, hyphened, is_equals_sign, long_piece, option, option_with, piece_of, plain}
 use Rattle.command_line.proofs.AskedLemmas.{IsWrong}
 
 -- the word looks like no flag

@@ -1,23 +1,20 @@
 -- One more word of the line: where `clap` stands after it, or that it refuses it.
-use Rattle.std.proofs.Common.{◌≡◌, ◌∙◌, ◌++◌, ◌&&◌, ◌||◌, ◌⊎◌, ℕ, Bool, cond, true, false, List, [], ◌∷◌, map, length, Option, Some, None, ap, ap₂, refl, sym, subst, codes, arith, suc, inl, inr}
+use Rattle.std.proofs.Common.{◌≡◌, ◌∙◌, ◌++◌, ◌&&◌, ◌||◌, ℕ, Bool, cond, true, false, List, [], ◌∷◌, Option, Some, None, ap, ap₂, refl, codes}
 use Rattle.std.specs.Prelude.{slice_get, if◌then◌else◌}
-use Rattle.std.specs.List.{fold}
 use Rattle.std.specs.Str.{bytes_eq, chars}
-use Rattle.std.proofs.lemmas.Bool.{cases_Bool}
 use Rattle.std.proofs.lemmas.Slice.Eq.{bytes_eq-Decides}
-use Rattle.clap.specs.Lexer.{long_of, name_and_value, short_of}
-use Rattle.clap.specs.Walk.{Held, Outcome, Row, Rule, Step, Text, Waiting, Walk, arg_by_long, bundle, bundle_met, idle, is_pending, most_values, option, positional_held, plain_word, pushed, settled, subcommand_met, takes_values, used, walked, word_met}
+use Rattle.clap.specs.Lexer.{long_of, short_of}
+use Rattle.clap.specs.Walk.{Held, Step, Text, Waiting, Walk, arg_by_long, bundle, bundle_met, idle, is_pending, option, positional_held, plain_word, pushed, settled, subcommand_met, used, walked, word_met}
 use Rattle.clap.specs.Walk.{value as positional_value}
 use Rattle.clap.specs.Walk.{plain as no_flag, positional}
-use Rattle.clap.specs.Kinds.{Kinds, or_else}
-use Rattle.clap.specs.Faults.{bundle_fault, flags_fault, react_fault, settle_fault, step_fault, turn_fault, use_fault, walk_fault, word_fault}
+use Rattle.clap.specs.Faults.{bundle_fault, flags_fault, react_fault, settle_fault, step_fault, turn_fault, word_fault}
 use Rattle.clap.specs.declared.error.kind.ErrorKind.{ErrorKind}
-use Rattle.clap.specs.declared.error.kind.ErrorKind.TheVariants.{ArgumentConflict, InvalidValue, UnknownArgument}
+use Rattle.clap.specs.declared.error.kind.ErrorKind.TheVariants.{ArgumentConflict, UnknownArgument}
 use Rattle.command_line.specs.Words.{Given, Word}
 use Rattle.command_line.proofs.GivenLemmas.{has}
-use Rattle.command_line.proofs.AskedLemmas.{Dead, IsName, row, rows}
+use Rattle.command_line.proofs.AskedLemmas.{rows}
 use Rattle.command_line.proofs.SortLemmas.{IsNoFlag}
-use Rattle.command_line.proofs.LineLemmas.{Known, KnownOption, Settling, command_rule, joins, clash, first_use, kept, line, repeat-clash, repeat-fresh, waiting_fault}
+use Rattle.command_line.proofs.LineLemmas.{KnownOption, command_rule, first_use, kept, line, repeat-clash, repeat-fresh}
 
 -- where the walk stands: what was found, what is pending, what waits for a value, whether a command
 -- was met, and whether `--` was

@@ -10,14 +10,16 @@ use clap::{Arg, ArgMatches};
 use hs_base::Memory;
 use std::alloc::Global;
 
-// The budget where none is given, and the largest one.
+// The budget where none is given.
 const BUDGET: u64 = 100_000;
 
+// The largest budget.
 const MOST_BUDGET: u64 = 1_000_000;
 
-// The size where none is given, and the largest one.
+// The size where none is given.
 const SIZE: u64 = 40;
 
+// The largest size.
 const MOST_SIZE: u64 = 1_000;
 
 /// What the program is asked for by its words, which are those after its name: one command, and

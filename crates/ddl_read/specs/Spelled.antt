@@ -44,6 +44,18 @@ pub record IsSpelled (text : List ℕ) (p : Piece) : Type 0 where
 abbrev pub spellings : List ℕ → List Piece → List Spelling
 spellings text ps = map (spelling_of text) ps
 
+-- the same of pieces whose numbers are none too large
+abbrev pub IsSmallNumber : PieceKind → List ℕ → Type 0
+IsSmallNumber Word bytes = Unit {0}
+IsSmallNumber (Number n) bytes = n ≡ pos (number_of bytes)
+IsSmallNumber (Symbol c) bytes = Unit {0}
+
+abbrev pub IsSmall : List ℕ → Piece → Type 0
+IsSmall text p = (p.place + p.length ≤ length text) × IsSmallNumber p.kind (bytes_of_piece text p)
+
+abbrev pub AreSpelled : List ℕ → List Piece → Type 0
+AreSpelled text ps = AllByRecursion (IsSmall text) ps
+
 -- a refusal that the condition allows, or the want of memory
 abbrev pub OrMemory : (Refusal → Type 0) → Refusal → Type 0
 OrMemory P Memory = Unit {0}

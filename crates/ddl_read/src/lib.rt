@@ -4,10 +4,20 @@
 mod bytes;
 mod cut;
 mod large;
+mod mission;
+mod name;
+mod need;
 mod next;
 mod number;
 mod piece;
 mod pieces;
+mod range;
+mod reader;
+mod reading;
+mod script;
+mod unread;
+mod value;
 
 pub use piece::{Piece, PieceKind};
 pub use pieces::Pieces;
+pub use reading::{read, read_front};

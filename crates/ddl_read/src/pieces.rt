@@ -1,7 +1,7 @@
-ghost use Rattle.std.specs.Prelude.{◌≡◌, ◌<◌, ◌^◌, length, slice_get, OnOk, IfErr, MatchResult};
+ghost use Rattle.std.specs.Prelude.{◌≡◌, ◌<◌, ◌^◌, length, map, slice_get, OnOk, IfErr, MatchResult};
 ghost use Rattle.std.specs.Str.{IsUtf8};
-ghost use Rattle.hs_base.specs.Pieces.{IsCutRefusal};
-ghost use Rattle.ddl_read.specs.Spelled.{OrMemory};
+ghost use Rattle.hs_base.specs.Pieces.{IsCutRefusal, place_in};
+ghost use Rattle.ddl_read.specs.Spelled.{OrMemory, placed};
 ghost use Rattle.ddl_read.specs.Cutting.{IsCut, IsUtf8Refusal};
 
 use crate::Piece;
@@ -84,8 +84,19 @@ impl<'a> Pieces<'a> {
 
     /// The pieces.
     pub fn as_slice(&self) -> &[Piece]
-        ensures { result.now ≡ self.now.pieces }
+        ensures pieces { result.now ≡ self.now.pieces }
+        ensures cut { IsCut self.now.bytes self.now.pieces }
     {
         self.pieces.as_slice()
+    }
+
+    /// The place of the piece of that number, or the length of the text past the end.
+    pub fn place(&self, i: u32) -> u32
+        ensures { result ≡ place_in (length self.now.bytes) (map (placed self.now.bytes) self.now.pieces) i }
+    {
+        match self.get(i) {
+            Some(piece) => piece.place,
+            None => self.text.len() as u32,
+        }
     }
 }

@@ -1,9 +1,10 @@
 -- What a lawful state and its index say of groups, places and windows.
-use Rattle.std.proofs.Common.{◌≡◌, ◌≢◌, ℕ, ◌+◌, ◌<◌, List, [], length, refl, sym, ap, ◌∙◌, subst, arith, pos, inl, inr, ◌⊎◌, get_or, map, All, Option, Some, None}
+use Rattle.std.proofs.Common.{◌≡◌, ◌≢◌, ℕ, ◌+◌, ◌<◌, List, [], length, refl, sym, ap, ◌∙◌, subst, arith, pos, inl, inr, ◌⊎◌, get_or, map, All, Option, Some, None, true, false}
 use Rattle.std.proofs.lemmas.Int.{ints}
 use Rattle.std.proofs.lemmas.List.{length-map, get_or-map, get_or_default}
 use Rattle.std.proofs.lemmas.List.Elements.{Contains-get_or}
 use Rattle.std.specs.Prelude.{ℤ, ◌+ℤ◌, ◌≤ℤ◌, ◌<ℤ◌, Contains}
+use Rattle.std.specs.Option.{is_some}
 use Rattle.hs_base.specs.declared.limits.TheConstants.{LAST}
 use Rattle.hs_base.specs.declared.net.Bound.{Bound}
 use Rattle.hs_base.specs.declared.net.Member.{Member}
@@ -15,6 +16,7 @@ use Rattle.hs_base.specs.Fits.{Times}
 use Rattle.hs_base.specs.Dispatch.{stands, group_time, lookup_time, leader_times}
 use Rattle.hs_base.specs.Windows.{IsHigh, AreHigh, AreLater}
 use Rattle.net_laws.proofs.LeaderLemmas.{cases_Option}
+use Rattle.net_laws.proofs.ListLemmas.{contains_from}
 use Rattle.net_laws.proofs.NetworkLemmas.{leaders_differ, offset_within, edge_within, stands_once}
 use Rattle.net_laws.proofs.StepLemmas.{ticked as after_tick}
 use Rattle.net_laws.proofs.WindowLemmas.{windows_free}
@@ -31,6 +33,15 @@ use Rattle.dispatcher.specs.Index.{AreSetBy, AreWaits}
 -- functions with the same values are one
 pub function_is : {X Y : Type 0} (f g : X → Y) → ((x : X) → f x ≡ g x) → f ≡ g
 function_is f g h = λ i x. h x i
+
+-- what a test of an option says
+pub none_from : {X : Type 0} (o : Option X) → is_some o ≡ false → o ≡ None
+none_from None h = refl
+none_from (Some x) h = absurd (cc)
+
+pub some_from : {X : Type 0} (o : Option X) → is_some o ≡ true → (x : X) × (o ≡ Some x)
+some_from None h = absurd (cc)
+some_from (Some x) h = (x, refl)
 
 -- the windows' condition holds of each reduced network
 pub joined : (c : ℕ) (net : Net) → IsReducedOf c (spread net) net → IsJoined net
@@ -75,6 +86,14 @@ module _ (c : ℕ) (net : Net) (is : IsReducedOf c (spread net) net) where
           group = ap (λ z. get_or net.groups z g) same ∙ there;
           offset = once.1;
         }
+
+    -- a group's number is that of its leader's place
+    pub leader_place : (i : ℕ) (d : Group) → i < length net.groups → (place_at places (get_or net.groups i d).leader.0).group ≡ i
+    leader_place i d ii =
+        let g : Group = get_or net.groups i d in
+        let self : Member = record { point = g.leader; offset = pos 0 } in
+        let k = place_is g self (Contains-get_or net.groups i d ii) (contains_from (stands g) self (inl refl)) in
+        number_is (place_at places g.leader.0).group i g d k.within ii (ap (λ (z : Group). z.leader.0) k.group)
 
 -- the windows are set by the executed points
 module _ (net : Net) (times : List (Option ℤ)) (at : Times) (w : Windows) (of : AreWindowsOf net w) (by : w.times.items ≡ map (group_time at) net.groups) where
@@ -150,25 +169,25 @@ module _ (s : State) (law : IsLawful s) (w : Windows) (places : List Place) (unt
               omega (arith, ints, later.windows g ig unset, ap (high_of w) place, r.3)
         ],
         (
-        let x : ℕ = l.u_among.0 in
-        let ix : x < points s = omega (arith, l.u_among.1, waits.points) in
-        let p : Place = place_at places x in
-        let stand = are.each x ix in
-        let d : Group = record { leader = record { 0 = 0 }; members = [] } in
-        let g : Group = get_or s.net.groups p.group d in
-        let ig : Contains s.net.groups g = Contains-get_or s.net.groups p.group d stand.within in
-        let here : get_or until x u ≡ u = l.u_among.2 in
-        let is = waits.each x u ix in
-        let time_is = time_of_group s.net s.times at w by.are by.by p.group d stand.within in
-        elim (cases_Option (at x)) [
-          | inr done ↦ let v : get_or until x u ≡ NEVER = is ∙ rw done.1 refl in omega (arith, ints, v, here, law.last)
-          | inl none ↦ elim (cases_Option (time_of w p.group)) [
-            | inl unset ↦ let v : get_or until x u ≡ NEVER = is ∙ rw (none, unset) refl in omega (arith, ints, v, here, law.last)
-            | inr some ↦
-                let v : get_or until x u ≡ some.0 +ℤ p.offset = is ∙ rw (none, some.1) refl in
-                omega (arith, ints, v, here, later.points g some.0 (member x p.offset) ig (sym time_is ∙ some.1) (stand.stands d) none)
-          ]
-        ]),
+            let x : ℕ = l.u_among.0 in
+            let ix : x < points s = omega (arith, l.u_among.1, waits.points) in
+            let p : Place = place_at places x in
+            let stand = are.each x ix in
+            let d : Group = record { leader = record { 0 = 0 }; members = [] } in
+            let g : Group = get_or s.net.groups p.group d in
+            let ig : Contains s.net.groups g = Contains-get_or s.net.groups p.group d stand.within in
+            let here : get_or until x u ≡ u = l.u_among.2 in
+            let is = waits.each x u ix in
+            let time_is = time_of_group s.net s.times at w by.are by.by p.group d stand.within in
+            elim (cases_Option (at x)) [
+              | inr done ↦ let v : get_or until x u ≡ NEVER = is ∙ rw done.1 refl in omega (arith, ints, v, here, law.last)
+              | inl none ↦ elim (cases_Option (time_of w p.group)) [
+                | inl unset ↦ let v : get_or until x u ≡ NEVER = is ∙ rw (none, unset) refl in omega (arith, ints, v, here, law.last)
+                | inr some ↦
+                    let v : get_or until x u ≡ some.0 +ℤ p.offset = is ∙ rw (none, some.1) refl in
+                    omega (arith, ints, v, here, later.points g some.0 (member x p.offset) ig (sym time_is ∙ some.1) (stand.stands d) none)
+              ]
+            ]),
       )
 
 -- a tick that may be taken stays within LAST, where a point is open

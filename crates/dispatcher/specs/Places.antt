@@ -1,5 +1,5 @@
 -- Where each point stands: the number of its group, and its offset.
-use Rattle.std.specs.Prelude.{◌≡◌, ℕ, ◌<◌, ℤ, pos, ◌≤ℤ◌, List, length, get_or, Contains}
+use Rattle.std.specs.Prelude.{◌≡◌, ℕ, ◌<◌, ℤ, pos, ◌≤ℤ◌, List, length, get_or, set, Contains}
 use Rattle.hs_base.specs.declared.limits.TheConstants.{LAST}
 use Rattle.hs_base.specs.declared.net.Member.{Member}
 use Rattle.hs_base.specs.declared.net.Group.{Group}
@@ -32,3 +32,7 @@ pub record IsNearLeader (c : ℕ) (m : Member) : Type 0 where
   pub below : m.point.0 < c
   pub low : pos 0 ≤ℤ m.offset
   pub high : m.offset ≤ℤ LAST
+
+-- the places after one member of the group of that number
+abbrev pub placed : ℕ → List Place → Member → List Place
+placed i places m = set places m.point.0 (record { group = i; offset = m.offset })

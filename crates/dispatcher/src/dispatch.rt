@@ -6,8 +6,10 @@ ghost use Rattle.hs_base.specs.Fits.{EachOnce, time_at};
 ghost use Rattle.hs_base.specs.Dispatch.{IsReached};
 ghost use Rattle.dispatcher.specs.State.{IsLawful, IsOpen, IsLeastTied, IsTiedTo, MayFire, MayGoOn, MustFire, IsInTime, IsLate, Bars, begun, fired, points, ticked, time_in};
 
-use crate::places::Place;
-use crate::waits::wait_group;
+use crate::groups::set_groups;
+use crate::places::{Place, places};
+use crate::times::times_by_point;
+use crate::waits::{wait_group, waits_of};
 use hs_base::{Bound, List, Memory, Net, PointId, Time};
 use local_propagate::{Minima, NEVER, Windows};
 use std::alloc::Global;
@@ -43,6 +45,47 @@ impl Model for Dispatch {
 }
 
 impl Dispatch {
+    /// Begins at a time with the executed points, on a reduced network in which each point is marked
+    /// as observed or not. It takes all memory that later calls need.
+    pub fn begin(
+        alloc: Global,
+        net: Net,
+        observed: List<bool>,
+        times: &[Time],
+        now: i64,
+    ) -> Result<Dispatch, Memory>
+        requires reduced { IsReducedOf (length observed) (spread net) net }
+        requires once { EachOnce times.now }
+        requires reached { IsReached (length observed) net (time_at times.now) now }
+        requires last { now ≤ℤ LAST }
+        ensures { IfOk result (λ d. d ≡ begun net observed times.now now) }
+    {
+        let count = observed.len();
+        let times = times_by_point(alloc, count, times)?;
+        let places = places(alloc, count, &net)?;
+        let mut windows = Windows::fresh(alloc, &net)?;
+        let known = set_groups(
+            alloc,
+            &net,
+            places.as_slice(),
+            times.as_slice(),
+            &mut windows,
+        )?;
+        let until = waits_of(alloc, &windows, places.as_slice(), times.as_slice())?;
+        let marks = vec![in alloc; None; count]?;
+        Ok(Dispatch {
+            net,
+            windows,
+            observed,
+            times,
+            tick: now,
+            places,
+            known,
+            until,
+            marks,
+        })
+    }
+
     /// Now.
     pub fn now(&self) -> i64
         ensures value { result ≡ self.now.tick }
@@ -70,7 +113,11 @@ impl Dispatch {
         if self.windows.time(place.group).is_none() {
             self.windows.set(&self.net, place.group, self.tick);
             self.known[place.group as usize] = p;
-            wait_group(&self.net.groups[place.group as usize], self.tick, &mut self.until);
+            wait_group(
+                &self.net.groups[place.group as usize],
+                self.tick,
+                &mut self.until,
+            );
         }
         self.until.set(p.0 as usize, NEVER);
     }
@@ -79,9 +126,7 @@ impl Dispatch {
     pub fn limit(&self) -> i64
         ensures { MayGoOn self.now ↔ (self.now.tick <ℤ result) }
     {
-        self.windows
-            .least_high(&self.net)
-            .min(self.until.least())
+        self.windows.least_high(&self.net).min(self.until.least())
     }
 
     /// Whether the time may go on: some schedule that fits gives every open point a later time.

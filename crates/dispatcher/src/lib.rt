@@ -3,7 +3,9 @@
 #![tactic(auto)]
 
 mod dispatch;
+mod groups;
 mod places;
+mod times;
 mod waits;
 
 pub use dispatch::Dispatch;

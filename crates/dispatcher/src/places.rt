@@ -1,8 +1,8 @@
-ghost use Rattle.std.specs.Prelude.{◌≡◌, ◌<◌, ℕ, Contains, IfOk, length};
+ghost use Rattle.std.specs.Prelude.{◌≡◌, ◌<◌, ℕ, All, IfOk, length};
+ghost use Rattle.std.specs.List.{fold};
 ghost use Rattle.hs_base.specs.Network.{spread};
 ghost use Rattle.hs_base.specs.Reduced.{IsReducedOf};
-ghost use Rattle.hs_base.specs.Dispatch.{stands};
-ghost use Rattle.dispatcher.specs.Places.{ArePlaces, StandsAt, place_at};
+ghost use Rattle.dispatcher.specs.Places.{ArePlaces, IsNearLeader, placed};
 
 use hs_base::{Member, Memory, Net};
 use std::alloc::Global;
@@ -14,13 +14,33 @@ pub struct Place {
     pub offset: i64,
 }
 
-/// Notes where the members of a group stand.
-fn place_members(group: u32, members: &[Member], places: &mut [Place]) {
+/// Notes where members of a group stand.
+fn place_members(number: u32, members: &[Member], places: &mut [Place])
+    requires { All (IsNearLeader (length places.old)) members.now }
+    ensures { places.new ≡ fold (placed number) places.old members.now }
+{
     for member in members {
         places[member.point.0 as usize] = Place {
-            group,
+            group: number,
             offset: member.offset,
         };
+    }
+}
+
+/// Notes where all points stand.
+fn place_all(net: &Net, places: &mut [Place])
+    requires { IsReducedOf (length places.old) (spread net.now) net.now }
+    ensures { ArePlaces (length places.old) net.now places.new }
+{
+    let groups = net.groups.as_slice();
+    for i in 0..groups.len() {
+        let leader = groups[i].leader.0 as usize;
+        let number = i as u32;
+        places[leader] = Place {
+            group: number,
+            offset: 0,
+        };
+        place_members(number, groups[i].members.as_slice(), places);
     }
 }
 
@@ -29,13 +49,10 @@ pub fn places(alloc: Global, count: usize, net: &Net) -> Result<Vec<Place>, Memo
     requires { IsReducedOf count (spread net.now) net.now }
     ensures { IfOk result (λ p. ArePlaces count net.now p.items) }
 {
-    let mut places = vec![in alloc; Place { group: 0, offset: 0 }; count]?;
-    for (i, group) in net.groups.as_slice().iter().enumerate() {
-        places[group.leader.0 as usize] = Place {
-            group: i as u32,
-            offset: 0,
-        };
-        place_members(i as u32, group.members.as_slice(), places.as_mut_slice());
-    }
+    let mut places = vec![in alloc; Place {
+        group: 0,
+        offset: 0
+    }; count]?;
+    place_all(net, places.as_mut_slice());
     Ok(places)
 }

@@ -1,5 +1,5 @@
 ghost use Rattle.std.specs.Prelude.{◌≡◌, ◌≢◌, ◌↔◌, [], pos, replicate, None, IfOk, OnOk, OnErr};
-ghost use Rattle.hs_base.specs.State.{now_of, phase_of};
+ghost use Rattle.hs_base.specs.State.{now_of, plan_of, phase_of};
 ghost use Rattle.exec_core.specs.Recorded.{Records};
 
 use crate::live::Live;
@@ -9,10 +9,10 @@ use std::alloc::Global;
 use std::marker::Model;
 
 /// No time for each of so many points.
-fn unset(alloc: Global, points: u32) -> Result<Vec<Option<i64>>, Memory>
+fn unset(alloc: Global, points: usize) -> Result<Vec<Option<i64>>, Memory>
     ensures { IfOk result (λ times. times.items ≡ replicate points None) }
 {
-    Ok(vec![in alloc; None; points as usize]?)
+    Ok(vec![in alloc; None; points]?)
 }
 
 /// The executive of a mission. Contracts see it as its mission and its history.
@@ -133,7 +133,7 @@ impl Exec {
             net,
             dist,
         } = offer;
-        let mut times = unset(self.alloc, dist.points())?;
+        let mut times = unset(self.alloc, dist.points)?;
         times[0] = Some(0);
         let deed = Deed::Handover { extension, net };
         self.history.push(Entry { by, deed })?;
@@ -142,9 +142,12 @@ impl Exec {
     }
 
     /// Executes a point now, where it may be. After want of memory nothing has changed.
+    #[tactic(auto, using(plan_laws::proofs::StateLemmas::plan_kept))]
     pub fn fire(&mut self, by: u32, point: PointId) -> Reply
         ensures done { result ≡ Reply.Done → Records self.old self.new by (Deed.Fire point) }
         ensures other { result ≢ Reply.Done → self.new ≡ self.old }
+        ensures mission { self.new.mission ≡ self.old.mission }
+        ensures plan { plan_of self.new.history ≡ plan_of self.old.history }
         ensures over { (result ≡ Reply.Over) ↔ (phase_of self.old.history ≡ Phase.Ended) }
         ensures no_net { (result ≡ Reply.NoNet) ↔ (phase_of self.old.history ≡ Phase.Waiting) }
     {
@@ -165,9 +168,12 @@ impl Exec {
 
     /// Goes on to the next tick, where nothing has to be executed before. After want of memory
     /// nothing has changed.
+    #[tactic(auto, using(plan_laws::proofs::StateLemmas::plan_kept))]
     pub fn tick(&mut self, by: u32) -> Reply
         ensures done { result ≡ Reply.Done → Records self.old self.new by Deed.Tick }
         ensures other { result ≢ Reply.Done → self.new ≡ self.old }
+        ensures mission { self.new.mission ≡ self.old.mission }
+        ensures plan { plan_of self.new.history ≡ plan_of self.old.history }
         ensures over { (result ≡ Reply.Over) ↔ (phase_of self.old.history ≡ Phase.Ended) }
         ensures no_net { (result ≡ Reply.NoNet) ↔ (phase_of self.old.history ≡ Phase.Waiting) }
     {

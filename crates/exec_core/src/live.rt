@@ -1,16 +1,16 @@
 ghost use Rattle.std.specs.Prelude.{◌≡◌, ◌≢◌, ◌↔◌, ◌<◌, vec_len, is_some, true, IfSome, IfNone, Some, None};
 
 use crate::Reply;
+use crate::dist::Dist;
 use hs_base::{Bound, PointId};
-use stn_distance::Dist;
 
 /// The plan that is being executed: the distances of its points, and when they were executed.
 #[derive(Drop)]
 pub struct Live {
     pub dist: Dist,
     pub times: Vec<Option<i64>>,
-    ghost all: { vec_len times ≡ dist.count },
-    ghost horizon: { 1 < dist.count },
+    ghost all: { vec_len times ≡ dist.points },
+    ghost horizon: { 1 < dist.points },
 }
 
 impl Live {
@@ -25,17 +25,17 @@ impl Live {
 
     /// A bound of a point that its execution now would break: it leads to a point that was executed
     /// too long ago, or to one that has to come before it and isn't executed yet.
-    fn in_the_way(&self, point: u32, now: i64) -> Option<Bound>
-        requires { point < self.now.dist.count }
+    fn in_the_way(&self, point: usize, now: i64) -> Option<Bound>
+        requires { point < self.now.dist.points }
     {
-        for to in 0..self.dist.points() {
-            let most = self.dist.at(PointId(point), PointId(to));
-            let is_broken = match self.times[to as usize] {
+        for to in 0..self.dist.points {
+            let most = self.dist.at(point, to);
+            let is_broken = match self.times[to] {
                 Some(at) => at.saturating_sub(now) > most,
                 None => most < 0,
             };
             if is_broken {
-                let (from, to) = (PointId(point), PointId(to));
+                let (from, to) = (PointId(point as u32), PointId(to as u32));
                 return Some(Bound { from, to, most });
             }
         }
@@ -51,24 +51,25 @@ impl Live {
         if self.is_over() {
             return Some(Reply::Over);
         }
-        if point.0 >= self.dist.points() {
+        let place = point.0 as usize;
+        if place >= self.dist.points {
             return Some(Reply::NoPoint);
         }
-        if let Some(at) = self.times[point.0 as usize] {
+        if let Some(at) = self.times[place] {
             return Some(Reply::Already { at });
         }
-        let bound = self.in_the_way(point.0, now)?;
+        let bound = self.in_the_way(place, now)?;
         Some(Reply::NotYet { bound })
     }
 
     /// The latest tick at which a point may be executed, by the points that were executed.
-    fn latest(&self, point: u32) -> i64
-        requires { point < self.now.dist.count }
+    fn latest(&self, point: usize) -> i64
+        requires { point < self.now.dist.points }
     {
         let mut latest = i64::MAX;
-        for from in 0..self.dist.points() {
-            if let Some(at) = self.times[from as usize] {
-                let most = self.dist.at(PointId(from), PointId(point));
+        for from in 0..self.dist.points {
+            if let Some(at) = self.times[from] {
+                let most = self.dist.at(from, point);
                 latest = latest.min(at.saturating_add(most));
             }
         }
@@ -77,9 +78,9 @@ impl Live {
 
     /// A point that has to be executed before the next tick.
     pub fn due(&self, now: i64) -> Option<PointId> {
-        for point in 0..self.dist.points() {
-            if self.times[point as usize].is_none() && self.latest(point) <= now {
-                return Some(PointId(point));
+        for point in 0..self.dist.points {
+            if self.times[point].is_none() && self.latest(point) <= now {
+                return Some(PointId(point as u32));
             }
         }
         None

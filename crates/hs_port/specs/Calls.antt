@@ -1,10 +1,14 @@
 -- The calls of an object in memory, some of which are to fail.
-use Rattle.std.specs.Prelude.{◌≡◌, ℕ, ◌+◌, ◌-◌, ◌^◌, min, Contains, Result, MatchResult}
+use Rattle.std.specs.Prelude.{◌≡◌, ℕ, ◌+◌, ◌-◌, ◌^◌, List, min, Contains, Result, MatchResult}
 use Rattle.hs_port.specs.declared.failing.Failing.{Failing}
 
 -- the next call is one of those that are to fail
 abbrev pub IsToFail : Failing → Type 0
 IsToFail f = Contains f.fail f.calls
+
+-- no call was made yet
+abbrev pub uncalled : List ℕ → Failing
+uncalled fail = record { fail = fail; calls = 0; faults = 0 }
 
 -- a count goes up by one, and stays at its greatest value
 abbrev pub one_more : ℕ → ℕ

@@ -3,3 +3,4 @@ pub mod Told
 pub mod Streams
 pub mod Calls
 pub mod Forms
+pub mod Reports

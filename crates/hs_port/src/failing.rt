@@ -1,6 +1,6 @@
 ghost use Rattle.std.specs.Prelude.{◌≡◌, ◌⊎◌, ◌↔◌, false, IsTrue, IsErr, OnOk, OnErr};
 ghost use Rattle.hs_port.specs.Causes.{HasCause};
-ghost use Rattle.hs_port.specs.Calls.{IsToFail, answered, failed};
+ghost use Rattle.hs_port.specs.Calls.{IsToFail, answered, failed, uncalled};
 
 use crate::Failed;
 use hs_base::List;
@@ -17,7 +17,7 @@ pub struct Failing {
 impl Failing {
     /// No call made yet; `fail` has the numbers of those that are to fail.
     pub fn begin(fail: List<u64>) -> Failing
-        ensures { result ≡ record { fail = fail; calls = 0; faults = 0 } }
+        ensures { result ≡ uncalled fail }
     {
         Failing {
             fail,

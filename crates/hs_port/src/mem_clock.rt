@@ -1,6 +1,6 @@
 ghost use Rattle.std.specs.Prelude.{◌≡◌, ◌⊎◌, ◌↔◌, ◌+◌, ◌-◌, ◌^◌, Some, IsErr, OnOk, OnErr};
 ghost use Rattle.hs_port.specs.Causes.{HasCause};
-ghost use Rattle.hs_port.specs.Calls.{IsToFail, answered, failed};
+ghost use Rattle.hs_port.specs.Calls.{IsToFail, answered, failed, uncalled};
 
 use crate::failing::Failing;
 use crate::{Clock, Failed};
@@ -17,7 +17,7 @@ impl MemClock {
     /// A clock that has given no tick. `fail` has the numbers, from 0, of the calls that are to
     /// fail.
     pub fn begin(fail: List<u64>) -> MemClock
-        ensures { result ≡ record { ticks = 0; calls = record { fail = fail; calls = 0; faults = 0 } } }
+        ensures { result ≡ record { ticks = 0; calls = uncalled fail } }
     {
         MemClock {
             ticks: 0,

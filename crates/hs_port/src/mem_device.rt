@@ -1,6 +1,6 @@
 ghost use Rattle.std.specs.Prelude.{◌≡◌, ◌⊎◌, ◌↔◌, [], Some, length, IsErr, IsOk, IfOk, OnOk, OnErr};
 ghost use Rattle.hs_port.specs.Causes.{HasCause};
-ghost use Rattle.hs_port.specs.Calls.{IsToFail, answered, failed};
+ghost use Rattle.hs_port.specs.Calls.{IsToFail, answered, failed, uncalled};
 ghost use Rattle.hs_port.specs.Forms.{polled_at, answer_at};
 
 use crate::failing::Failing;
@@ -49,7 +49,7 @@ impl MemDevice {
           polls = [];
           room = room;
           answers = answers;
-          calls = record { fail = fail; calls = 0; faults = 0 };
+          calls = uncalled fail;
         }) }
     {
         Ok(MemDevice {

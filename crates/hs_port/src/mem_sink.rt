@@ -1,7 +1,7 @@
 ghost use Rattle.std.specs.Prelude.{◌≡◌, ◌⊎◌, ◌↔◌, ◌<◌, [], Some, length, min, IsErr, IfOk, OnErr};
 ghost use Rattle.hs_port.specs.Causes.{HasCause};
 ghost use Rattle.hs_port.specs.Streams.{GoesOn};
-ghost use Rattle.hs_port.specs.Calls.{IsToFail, failed};
+ghost use Rattle.hs_port.specs.Calls.{IsToFail, failed, uncalled};
 ghost use Rattle.hs_port.specs.Forms.{written_by};
 
 use crate::failing::Failing;
@@ -44,7 +44,7 @@ impl MemSink {
           taken = [];
           room = room;
           most = most;
-          calls = record { fail = fail; calls = 0; faults = 0 };
+          calls = uncalled fail;
         }) }
     {
         Ok(MemSink {

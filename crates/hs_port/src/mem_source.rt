@@ -1,6 +1,6 @@
 ghost use Rattle.std.specs.Prelude.{◌≡◌, ◌↔◌, Some, length, take, min, IsErr, IfOk, OnErr};
 ghost use Rattle.hs_port.specs.Causes.{HasCause};
-ghost use Rattle.hs_port.specs.Calls.{IsToFail, failed};
+ghost use Rattle.hs_port.specs.Calls.{IsToFail, failed, uncalled};
 ghost use Rattle.hs_port.specs.Forms.{read_by};
 
 use crate::copying::copy_front;
@@ -32,7 +32,7 @@ impl MemSource {
     /// The source of these bytes. `fail` has the numbers, from 0, of the calls that are to fail.
     pub fn begin(bytes: List<u8>, fail: List<u64>) -> MemSource
         ensures left { result.left ≡ bytes }
-        ensures calls { result.calls ≡ record { fail = fail; calls = 0; faults = 0 } }
+        ensures calls { result.calls ≡ uncalled fail }
     {
         MemSource {
             bytes,

@@ -7,4 +7,5 @@ mod places;
 mod windows;
 
 pub use minima::Minima;
+pub use neighbours::Neighbour;
 pub use windows::{NEVER, Windows};

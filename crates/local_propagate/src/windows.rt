@@ -102,7 +102,7 @@ fn release(before: &[Neighbour], waits: &mut [usize])
 impl Windows {
     ghost use Rattle.hs_base.specs.declared.net.Net.{Net};
     ghost use Rattle.hs_base.specs.Windows.{IsLow, IsHigh, AreSet};
-    ghost use Rattle.local_propagate.specs.Joined.{leader_at};
+    ghost use Rattle.local_propagate.specs.Joined.{after_of, leader_at, leaders_of};
     ghost use Rattle.local_propagate.specs.Windows.{AreWindowsOf, AreApart, times_of, time_of, set_times, low_of, high_of};
 
     /// The windows of a network's groups, none of them set. Neighbours are listed once, in time and
@@ -140,7 +140,12 @@ impl Windows {
         let group = group as usize;
         self.times[group] = Some(at);
         self.high.set(group, NEVER);
-        lower(self.after.of(group), self.times.as_slice(), at, &mut self.high);
+        lower(
+            self.after.of(group),
+            self.times.as_slice(),
+            at,
+            &mut self.high,
+        );
         raise(self.before.of(group), at, self.low.as_mut_slice());
         release(self.before.of(group), self.waits.as_mut_slice());
     }
@@ -179,6 +184,15 @@ impl Windows {
             Some(at) => at,
             None => self.high.at(group as usize),
         }
+    }
+
+    /// The groups that the edges of a group lead to.
+    pub fn after(&self, _net: &Net, group: u32) -> &[Neighbour]
+        requires windows { AreWindowsOf _net.now self.now }
+        requires group { group < length (times_of self.now) }
+        ensures { result.now ≡ after_of (leaders_of _net.now.groups) _net.now.edges (leader_at _net.now group) }
+    {
+        self.after.of(group as usize)
     }
 
     /// Whether each negative edge of a group leads to a set one.

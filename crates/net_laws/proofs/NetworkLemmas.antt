@@ -90,8 +90,16 @@ module _ (c : ℕ) (net : Net) (is : IsReducedOf c (spread net) net) where
       record {
         below = s.below;
         low = omega (arith, ints, s.offset, lead.early);
-        high = omega (arith, ints, s.offset, s.rigid.sum, (t.tight k.at m.point.0 k.below s.below).implied.holds t.some f, (t.tight m.point.0 k.at s.below k.below).implied.holds t.some f,
-            (t.before_last m.point.0 s.below).holds t.some f, (t.after_origin k.at k.below).holds t.some f);
+        high = omega (
+          arith,
+          ints,
+          s.offset,
+          s.rigid.sum,
+          (t.tight k.at m.point.0 k.below s.below).implied.holds t.some f,
+          (t.tight m.point.0 k.at s.below k.below).implied.holds t.some f,
+          (t.before_last m.point.0 s.below).holds t.some f,
+          (t.after_origin k.at k.below).holds t.some f,
+        );
       }
 
   -- an edge joins two leaders, and its weight is within LAST

@@ -2,3 +2,11 @@ pub mod ScheduleLemmas
 pub mod PlanLemmas
 pub mod StateLemmas
 pub mod RunLemmas
+pub mod ChainLemmas
+pub mod LengthLemmas
+pub mod SpanLemmas
+pub mod GoalLemmas
+pub mod NeedLemmas
+pub mod LegalLemmas
+pub mod FaultLemmas
+pub mod FitLemmas

@@ -2,8 +2,8 @@
 use Rattle.std.proofs.Common.{List, [], ◌∷◌, ◌++◌}
 use Rattle.hs_base.specs.declared.plan.Extension.{Extension}
 use Rattle.hs_base.specs.declared.mission.Mission.{Mission}
-use Rattle.hs_base.specs.Schedule.{Schedule, Meets, Holds}
-use Rattle.hs_base.specs.Bounds.{bounds_of, new_bounds, IsScheduleOf}
+use Rattle.hs_base.specs.Schedule.{Schedule, Holds}
+use Rattle.hs_base.specs.Bounds.{new_bounds, IsScheduleOf}
 use Rattle.base_laws.proofs.ListLemmas.{each_split, join_after-push}
 
 -- a schedule of a plan is one of the plan without its last extension

@@ -1,11 +1,10 @@
 -- What every run keeps: each point is executed once, and some schedule fits.
-use Rattle.std.proofs.Common.{◌≡◌, ◌≢◌, ℕ, ◌+◌, Bool, true, false, cond, nat_eq, ℤ, pos, List, [], ◌∷◌, ◌++◌, take, length, Option, Some, None, refl, sym, ap, ◌∙◌, subst, arith, append-nil, length-append, add-zero, inl, inr}
+use Rattle.std.proofs.Common.{◌≡◌, ℕ, ◌+◌, Bool, true, false, cond, nat_eq, ℤ, pos, List, [], ◌∷◌, ◌++◌, take, Option, Some, None, refl, sym, ap, ◌∙◌, subst, arith, length-append, add-zero, inl, inr}
 use Rattle.std.proofs.lemmas.Int.{ints}
 use Rattle.std.proofs.lemmas.Bool.{cases_Bool, eqb-true}
 use Rattle.std.specs.Prelude.{MatchBool, MatchOption, ◌≤ℤ◌, ◌+ℤ◌, ◌<◌}
 use Rattle.std.proofs.Math.Seq.{take-append_seam}
 use Rattle.hs_base.specs.declared.ids.PointId.{PointId}
-use Rattle.hs_base.specs.declared.plan.Time.{Time}
 use Rattle.hs_base.specs.declared.plan.Extension.{Extension}
 use Rattle.hs_base.specs.declared.mission.Mission.{Mission}
 use Rattle.hs_base.specs.declared.history.Deed.{Deed}
@@ -14,8 +13,8 @@ use Rattle.hs_base.specs.declared.history.Entry.{Entry}
 use Rattle.hs_base.specs.Points.{count}
 use Rattle.hs_base.specs.Bounds.{bounds_of}
 use Rattle.hs_base.specs.Schedule.{Schedule}
-use Rattle.hs_base.specs.Fits.{Times, Fits, MayBeNow, MayTick, put, EachOnce, time_at}
-use Rattle.hs_base.specs.State.{now_of, times_of, plan_of, hands_over, executes, is_tick, ticks_of, executed, count_at, bounds_at, tick_at, FitsState}
+use Rattle.hs_base.specs.Fits.{Times, Fits, put, EachOnce, time_at}
+use Rattle.hs_base.specs.State.{now_of, times_of, plan_of, hands_over, executes, is_tick, executed, count_at, bounds_at, tick_at, FitsState}
 use Rattle.hs_base.specs.Machine.{Event, tick, fire, report, handover, Reply, done, observed, not_observed, over, no_net, no_point, already, FireReply, HandoverReply, PointReply, EventReply, MayFire, MayGoOn, Replies, IsLeftBy, base_of}
 use Rattle.hs_base.specs.Run.{MayAdd, Run}
 use Rattle.base_laws.proofs.ListLemmas.{snoc_induction}

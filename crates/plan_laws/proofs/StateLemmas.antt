@@ -1,7 +1,7 @@
 -- How the state changes with one more entry.
-use Rattle.std.proofs.Common.{◌≡◌, ◌≢◌, ℕ, ◌+◌, Bool, true, false, cond, nat_eq, ℤ, pos, List, [], ◌∷◌, ◌++◌, Option, Some, None, refl, sym, ap, ◌∙◌, subst, arith, append_assoc, append-nil, add-zero, add_assoc, inl, inr, take, length, get_or, ◌<◌}
+use Rattle.std.proofs.Common.{◌≡◌, ℕ, ◌+◌, Bool, true, false, cond, nat_eq, ℤ, pos, List, [], ◌∷◌, ◌++◌, Option, Some, None, refl, ap, ◌∙◌, subst, arith, append_assoc, append-nil, add-zero, add_assoc, inl, inr, take, length, get_or, ◌<◌}
 use Rattle.std.proofs.lemmas.Grind.{common_steps}
-use Rattle.std.proofs.lemmas.Bool.{cases_Bool, eqb-true, eq-eqb}
+use Rattle.std.proofs.lemmas.Bool.{cases_Bool, eqb-true}
 use Rattle.std.proofs.lemmas.Bool.Decides.{nat_tests}
 use Rattle.std.proofs.lemmas.List.{take_more}
 use Rattle.std.proofs.lemmas.List.Elements.{filter_map-append}
@@ -12,7 +12,7 @@ use Rattle.hs_base.specs.declared.plan.Time.{Time}
 use Rattle.hs_base.specs.declared.plan.Extension.{Extension}
 use Rattle.hs_base.specs.declared.history.Entry.{Entry}
 use Rattle.hs_base.specs.Dispatch.{or_else}
-use Rattle.hs_base.specs.Fits.{Times, time_at, put, EachOnce}
+use Rattle.hs_base.specs.Fits.{time_at, put, EachOnce}
 use Rattle.hs_base.specs.State.{now_of, times_of, times_from, time_of_entry, ticks_of, executes, hands_over, plan_of, executed}
 
 -- the times of a history with one more entry

@@ -6,6 +6,8 @@ mod names;
 mod nets;
 mod parts;
 mod plans;
+#[cfg(test)]
+mod tests;
 
 pub use body::push_body;
 pub use names::{PointName, PointNames};

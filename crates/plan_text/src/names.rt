@@ -4,7 +4,7 @@ ghost use Rattle.hs_base.specs.declared.plan.Extension.{Extension};
 ghost use Rattle.hs_base.specs.Points.{Point, count, points_of};
 ghost use Rattle.plan_text.specs.Named.{named, with_end, with_extension, CountsTokens};
 
-use hs_base::{Extension, Kind, Memory, Plan, PointId, TokenRef};
+use hs_base::{Extension, Kind, Memory, PointId, TokenRef};
 use std::alloc::Global;
 use std::marker::Model;
 
@@ -142,13 +142,13 @@ impl PointNames {
         new_end(&self.tokens, extension.tokens.as_slice(), new - 1)
     }
 
-    /// The points of a plan.
-    pub fn of(alloc: Global, plan: &Plan) -> Result<PointNames, Memory>
-        requires { count plan.now.extensions < 2 ^ 32 }
-        ensures { IfOk result (λ names. names ≡ points_of plan.now.extensions) }
+    /// The points of the plan with these extensions.
+    pub fn of(alloc: Global, extensions: &[Extension]) -> Result<PointNames, Memory>
+        requires { count extensions.now < 2 ^ 32 }
+        ensures { IfOk result (λ names. names ≡ points_of extensions.now) }
     {
         let mut names = PointNames::new(alloc)?;
-        for extension in plan.extensions.as_slice() {
+        for extension in extensions {
             names.extend(extension)?;
         }
         Ok(names)

@@ -100,7 +100,7 @@ pub fn write_net(alloc: Global, mission: &Mission, plan: &Plan, net: &Net) -> Re
     ensures { IfOk result (λ text. text ≡ net_text mission.now plan.now.extensions net.now) }
 {
     let mut text = Text::new(alloc);
-    let names = PointNames::of(alloc, plan)?;
+    let names = PointNames::of(alloc, plan.extensions.as_slice())?;
     text.push_bytes(b"hsts net 1\n")?;
     push_counts(&mut text, net)?;
     text.push_bytes(b"\n")?;

@@ -50,7 +50,7 @@ pub fn point_text(
     ensures { IfOk result (λ text. text ≡ text_of_point mission.now plan.now.extensions point.0) }
 {
     let mut text = Text::new(alloc);
-    let names = PointNames::of(alloc, plan)?;
+    let names = PointNames::of(alloc, plan.extensions.as_slice())?;
     push_point(&mut text, mission, &names, point)?;
     Ok(text)
 }

@@ -33,7 +33,7 @@ map_cond f true x = refl
 map_cond f false x = refl
 
 -- a map of a filter, with one more element
-map_filter_more : {X Y : Type 0} (f : X → Y) (p : X → Bool) (xs : List X) (i : ℕ) (d : X) → i < length xs
+pub map_filter_more : {X Y : Type 0} (f : X → Y) (p : X → Bool) (xs : List X) (i : ℕ) (d : X) → i < length xs
     → map f (filter p (take (i + 1) xs)) ≡ map f (filter p (take i xs)) ++ cond (p (get_or xs i d)) (f (get_or xs i d) ∷ []) []
 map_filter_more f p xs i d l =
     ap (λ ys. map f (filter p ys)) (take_more xs i d l) ∙ ap (map f) (filter-append p (take i xs) (get_or xs i d ∷ [])) ∙ map-append f (filter p (take i xs)) (filter p (get_or xs i d ∷ []))
@@ -52,7 +52,7 @@ groups_more d points ps i e l = map_filter_more (group_among d points) (leads_am
 -- ---- All groups
 
 -- a filter of what another keeps, where it keeps no more
-filter_within : {X : Type 0} (p q : X → Bool) (xs : List X) → ((x : X) → Has xs x → p x ≡ true → q x ≡ true) → filter p (filter q xs) ≡ filter p xs
+pub filter_within : {X : Type 0} (p q : X → Bool) (xs : List X) → ((x : X) → Has xs x → p x ≡ true → q x ≡ true) → filter p (filter q xs) ≡ filter p xs
 filter_within p q [] h = refl
 filter_within p q (y ∷ ys) h =
     let rest = filter_within p q ys (λ x i. h x (inr i)) in
@@ -64,11 +64,11 @@ filter_within p q (y ∷ ys) h =
       ]
     ]
 
-filter_same : {X : Type 0} (p q : X → Bool) (xs : List X) → ((x : X) → Has xs x → p x ≡ q x) → filter p xs ≡ filter q xs
+pub filter_same : {X : Type 0} (p q : X → Bool) (xs : List X) → ((x : X) → Has xs x → p x ≡ q x) → filter p xs ≡ filter q xs
 filter_same p q [] h = refl
 filter_same p q (y ∷ ys) h = rw (h y (inl refl)) (ap (λ zs. cond (q y) (y ∷ zs) zs) (filter_same p q ys (λ x i. h x (inr i))))
 
-map_same : {X Y : Type 0} (f g : X → Y) (xs : List X) → ((x : X) → Has xs x → f x ≡ g x) → map f xs ≡ map g xs
+pub map_same : {X Y : Type 0} (f g : X → Y) (xs : List X) → ((x : X) → Has xs x → f x ≡ g x) → map f xs ≡ map g xs
 map_same f g [] h = refl
 map_same f g (y ∷ ys) h = rw (h y (inl refl)) (ap (λ zs. g y ∷ zs) (map_same f g ys (λ x i. h x (inr i))))
 

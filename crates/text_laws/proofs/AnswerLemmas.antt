@@ -10,7 +10,7 @@ use Rattle.text_laws.specs.Parsers.{Read, done, stuck, Parser, next}
 use Rattle.text_laws.specs.Reads.{Avoids, HasRead, IsStuck, Lives, Reads}
 use Rattle.text_laws.proofs.ListLemmas.{avoids_none, not_both, same_value, same_rest}
 
-all_taken : (ps : List Piece) (n : ℕ) → length ps ≤ n → take n ps ≡ ps
+pub all_taken : (ps : List Piece) (n : ℕ) → length ps ≤ n → take n ps ≡ ps
 all_taken [] zero h = refl
 all_taken [] (suc n) h = refl
 all_taken (q ∷ ps) zero h = absurd (omega arith)
@@ -81,10 +81,10 @@ sentence_begins R ps n x h = record { more = []; value = x; sentence = subst (λ
 pub spelled_or_expected : {A : Type 0} (R : Language A) (ps : List Piece) (n : ℕ) (x : A) → R ps x → IsExpected R ps n → ⊥
 spelled_or_expected R ps n x h e =
     elim (cases_lt n (length ps)) [
-    | inl lt ↦
-        let whole : R (take (length ps) ps) x = subst (λ (zs : List Piece). R zs x) (sym (all_taken ps (length ps) (omega arith))) h in
-        e.after lt (fewer_begin R ps (n + 1) (length ps) (omega (arith, lt)) (sentence_begins R ps (length ps) x whole))
-    | inr ge ↦ e.none x (subst (λ (zs : List Piece). R zs x) (sym (all_taken ps n ge)) h)
+      | inl lt ↦
+          let whole : R (take (length ps) ps) x = subst (λ (zs : List Piece). R zs x) (sym (all_taken ps (length ps) (omega arith))) h in
+          e.after lt (fewer_begin R ps (n + 1) (length ps) (omega (arith, lt)) (sentence_begins R ps (length ps) x whole))
+      | inr ge ↦ e.none x (subst (λ (zs : List Piece). R zs x) (sym (all_taken ps n ge)) h)
     ]
 
 -- nor one that is too much
@@ -99,10 +99,10 @@ spelled_or_trailing R p r ps n x h t =
 pub expected_one : {A : Type 0} (R : Language A) (ps : List Piece) (m n : ℕ) → IsExpected R ps m → IsExpected R ps n → m ≡ n
 expected_one R ps m n h k =
     elim (cases_lt m n) [
-    | inl lt ↦ absurd (h.after (omega (arith, lt, k.within)) (fewer_begin R ps (m + 1) n (omega (arith, lt)) k.before))
-    | inr ge ↦ elim (cases_lt n m) [
-      | inl lt ↦ absurd (k.after (omega (arith, lt, h.within)) (fewer_begin R ps (n + 1) m (omega (arith, lt)) h.before))
-      | inr le ↦ omega (arith, ge, le)
+      | inl lt ↦ absurd (h.after (omega (arith, lt, k.within)) (fewer_begin R ps (m + 1) n (omega (arith, lt)) k.before))
+      | inr ge ↦ elim (cases_lt n m) [
+        | inl lt ↦ absurd (k.after (omega (arith, lt, h.within)) (fewer_begin R ps (n + 1) m (omega (arith, lt)) h.before))
+        | inr le ↦ omega (arith, ge, le)
       ]
     ]
 
@@ -110,16 +110,16 @@ expected_one R ps m n h k =
 pub expected_or_trailing : {A : Type 0} (R : Language A) (p : Parser A) → Reads R p [] → (ps : List Piece) (m n : ℕ) → IsExpected R ps m → IsTrailing R ps n → ⊥
 expected_or_trailing R p r ps m n h t =
     elim (cases_lt m n) [
-    | inl lt ↦ h.after (omega (arith, lt, t.within)) (fewer_begin R ps (m + 1) n (omega (arith, lt)) (sentence_begins R ps n t.value t.sentence))
-    | inr ge ↦ elim (cases_lt n m) [
-      | inl lt ↦
-          let b = h.before in
-          let a = reads_whole R p r (take m ps ++ b.more) b.value b.sentence in
-          let e : take m ps ≡ take n ps ++ drop n (take m ps) = sym (take-append-drop n (take m ps)) ∙ ap (λ (zs : List Piece). zs ++ drop n (take m ps)) (take-take n m ps (omega (arith, lt))) in
-          let c = ap p (ap (λ (zs : List Piece). zs ++ b.more) e ∙ append_assoc (take n ps) (drop n (take m ps)) b.more) ∙ reads_front R p r (take n ps) (drop n (take m ps) ++ b.more) t.value t.sentence in
-          let none : drop n (take m ps) ++ b.more ≡ [] = sym (same_rest (sym a ∙ c)) in
-          absurd (omega (arith, ap length none, length-append (drop n (take m ps)) b.more, length-drop n (take m ps), length-take m ps, h.within, lt))
-      | inr le ↦ let same : m ≡ n = omega (arith, ge, le) in h.none t.value (subst (λ (k : ℕ). R (take k ps) t.value) (sym same) t.sentence)
+      | inl lt ↦ h.after (omega (arith, lt, t.within)) (fewer_begin R ps (m + 1) n (omega (arith, lt)) (sentence_begins R ps n t.value t.sentence))
+      | inr ge ↦ elim (cases_lt n m) [
+        | inl lt ↦
+            let b = h.before in
+            let a = reads_whole R p r (take m ps ++ b.more) b.value b.sentence in
+            let e : take m ps ≡ take n ps ++ drop n (take m ps) = sym (take-append-drop n (take m ps)) ∙ ap (λ (zs : List Piece). zs ++ drop n (take m ps)) (take-take n m ps (omega (arith, lt))) in
+            let c = ap p (ap (λ (zs : List Piece). zs ++ b.more) e ∙ append_assoc (take n ps) (drop n (take m ps)) b.more) ∙ reads_front R p r (take n ps) (drop n (take m ps) ++ b.more) t.value t.sentence in
+            let none : drop n (take m ps) ++ b.more ≡ [] = sym (same_rest (sym a ∙ c)) in
+            absurd (omega (arith, ap length none, length-append (drop n (take m ps)) b.more, length-drop n (take m ps), length-take m ps, h.within, lt))
+        | inr le ↦ let same : m ≡ n = omega (arith, ge, le) in h.none t.value (subst (λ (k : ℕ). R (take k ps) t.value) (sym same) t.sentence)
       ]
     ]
 
@@ -134,3 +134,10 @@ trailing_one R p r ps m n h k =
 -- pieces are one sentence at most
 pub sentence_one : {A : Type 0} (R : Language A) (p : Parser A) → Reads R p [] → (ps : List Piece) (x y : A) → R ps x → R ps y → x ≡ y
 sentence_one R p r ps x y h k = same_value (sym (reads_whole R p r ps x h) ∙ reads_whole R p r ps y k)
+
+-- what is left is no more than there was
+pub done_left : {A : Type 0} (R : Language A) (p : Parser A) → Reads R p [] → (ps rest : List Piece) (x : A) → p ps ≡ done x rest → length rest ≤ length ps
+done_left R p r ps rest x h = let m = r.sound ps rest x h in omega (arith, ap length m.split, length-append m.front rest)
+
+pub stuck_left : {A : Type 0} (R : Language A) (p : Parser A) → Reads R p [] → (ps rest : List Piece) → p ps ≡ stuck rest → length rest ≤ length ps
+stuck_left R p r ps rest h = let m = r.halts ps rest h in omega (arith, ap length m.split, length-append m.front rest)

@@ -34,60 +34,60 @@ choose_reads {A} test s R S p q G t b r o l =
     let missed : (u : List Piece) (rest : List Piece) (x : A) → S u x → Avoids G (next rest) → test (next (u ++ rest)) ≡ false = λ u rest x h a. not_found test s t (next (u ++ rest)) (l.avoids u rest x h a) in
     record {
       sound = λ ps rest x h.
-        elim (chosen (test (next ps)) (p ps) (q ps) (done x rest) h) [
-        | inl k ↦
-            let m = r.sound ps rest x k.1 in record {
-              front = m.front;
-              sentence = inl m.sentence;
-              split = m.split;
-              local = λ other e. ap (λ c. cond c (p (m.front ++ other)) (q (m.front ++ other))) (met m.front other x m.sentence) ∙ m.local other e;
-            }
-        | inr k ↦
-            let m = o.sound ps rest x k.1 in record {
-              front = m.front;
-              sentence = inr m.sentence;
-              split = m.split;
-              local = λ other e.
-                ap (λ c. cond c (p (m.front ++ other)) (q (m.front ++ other))) (ap test (next_same m.front other rest e ∙ sym (ap next m.split)) ∙ k.0) ∙ m.local other e;
-            }
-        ];
+          elim (chosen (test (next ps)) (p ps) (q ps) (done x rest) h) [
+            | inl k ↦
+                let m = r.sound ps rest x k.1 in record {
+                  front = m.front;
+                  sentence = inl m.sentence;
+                  split = m.split;
+                  local = λ other e. ap (λ c. cond c (p (m.front ++ other)) (q (m.front ++ other))) (met m.front other x m.sentence) ∙ m.local other e;
+                }
+            | inr k ↦
+                let m = o.sound ps rest x k.1 in record {
+                  front = m.front;
+                  sentence = inr m.sentence;
+                  split = m.split;
+                  local = λ other e.
+                      ap (λ c. cond c (p (m.front ++ other)) (q (m.front ++ other))) (ap test (next_same m.front other rest e ∙ sym (ap next m.split)) ∙ k.0) ∙ m.local other e;
+                }
+          ];
       complete = λ u rest x h a.
-        elim h [
-        | inl k ↦ ap (λ c. cond c (p (u ++ rest)) (q (u ++ rest))) (met u rest x k) ∙ r.complete u rest x k a
-        | inr k ↦ ap (λ c. cond c (p (u ++ rest)) (q (u ++ rest))) (missed u rest x k a) ∙ o.complete u rest x k a
-        ];
+          elim h [
+            | inl k ↦ ap (λ c. cond c (p (u ++ rest)) (q (u ++ rest))) (met u rest x k) ∙ r.complete u rest x k a
+            | inr k ↦ ap (λ c. cond c (p (u ++ rest)) (q (u ++ rest))) (missed u rest x k a) ∙ o.complete u rest x k a
+          ];
       halts = λ ps rest h.
-        elim (chosen (test (next ps)) (p ps) (q ps) (stuck rest) h) [
-        | inl k ↦
-            let m = r.halts ps rest k.1 in record {
-              front = m.front;
-              split = m.split;
-              begins = record { more = m.begins.more; value = m.begins.value; sentence = inl m.begins.sentence };
-              none = λ c others more x e g.
-                elim g [
-                | inl n ↦ m.none c others more x e n
-                | inr n ↦
-                    let ahead : next (m.front ++ c ∷ more) ≡ next ps = next_same m.front (c ∷ more) rest (sym (ap next e)) ∙ sym (ap next m.split) in
-                    let off : test (next ((m.front ++ c ∷ more) ++ [])) ≡ false = missed (m.front ++ c ∷ more) [] x n tt in
-                    let off' : test (next (m.front ++ c ∷ more)) ≡ false = subst (λ (zs : List Piece). test (next zs) ≡ false) (append-nil (m.front ++ c ∷ more)) off in
-                    cc (k.0, ap test ahead, off')
-                ];
-            }
-        | inr k ↦
-            let m = o.halts ps rest k.1 in record {
-              front = m.front;
-              split = m.split;
-              begins = record { more = m.begins.more; value = m.begins.value; sentence = inr m.begins.sentence };
-              none = λ c others more x e g.
-                elim g [
-                | inl n ↦
-                    let ahead : next (m.front ++ c ∷ more) ≡ next ps = next_same m.front (c ∷ more) rest (sym (ap next e)) ∙ sym (ap next m.split) in
-                    let on : test (next ((m.front ++ c ∷ more) ++ [])) ≡ true = met (m.front ++ c ∷ more) [] x n in
-                    let on' : test (next (m.front ++ c ∷ more)) ≡ true = subst (λ (zs : List Piece). test (next zs) ≡ true) (append-nil (m.front ++ c ∷ more)) on in
-                    cc (k.0, ap test ahead, on')
-                | inr n ↦ m.none c others more x e n
-                ];
-            }
-        ];
+          elim (chosen (test (next ps)) (p ps) (q ps) (stuck rest) h) [
+            | inl k ↦
+                let m = r.halts ps rest k.1 in record {
+                  front = m.front;
+                  split = m.split;
+                  begins = record { more = m.begins.more; value = m.begins.value; sentence = inl m.begins.sentence };
+                  none = λ c others more x e g.
+                      elim g [
+                        | inl n ↦ m.none c others more x e n
+                        | inr n ↦
+                            let ahead : next (m.front ++ c ∷ more) ≡ next ps = next_same m.front (c ∷ more) rest (sym (ap next e)) ∙ sym (ap next m.split) in
+                            let off : test (next ((m.front ++ c ∷ more) ++ [])) ≡ false = missed (m.front ++ c ∷ more) [] x n tt in
+                            let off' : test (next (m.front ++ c ∷ more)) ≡ false = subst (λ (zs : List Piece). test (next zs) ≡ false) (append-nil (m.front ++ c ∷ more)) off in
+                            cc (k.0, ap test ahead, off')
+                      ];
+                }
+            | inr k ↦
+                let m = o.halts ps rest k.1 in record {
+                  front = m.front;
+                  split = m.split;
+                  begins = record { more = m.begins.more; value = m.begins.value; sentence = inr m.begins.sentence };
+                  none = λ c others more x e g.
+                      elim g [
+                        | inl n ↦
+                            let ahead : next (m.front ++ c ∷ more) ≡ next ps = next_same m.front (c ∷ more) rest (sym (ap next e)) ∙ sym (ap next m.split) in
+                            let on : test (next ((m.front ++ c ∷ more) ++ [])) ≡ true = met (m.front ++ c ∷ more) [] x n in
+                            let on' : test (next (m.front ++ c ∷ more)) ≡ true = subst (λ (zs : List Piece). test (next zs) ≡ true) (append-nil (m.front ++ c ∷ more)) on in
+                            cc (k.0, ap test ahead, on')
+                        | inr n ↦ m.none c others more x e n
+                      ];
+                }
+          ];
       lives = record { pieces = r.lives.pieces; value = r.lives.value; sentence = inl r.lives.sentence };
     }

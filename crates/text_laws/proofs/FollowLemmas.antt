@@ -46,8 +46,8 @@ pub avoids_test : (F : List Piece) (p : Piece) → list_any (λ f. same_piece f 
 avoids_test [] p h = tt
 avoids_test (f ∷ F) p h =
     elim (same_piece f p) as (λ b. same_piece f p ≡ b → Avoids (f ∷ F) (Some p)) [
-    | true ↦ λ e. absurd (grind arith)
-    | false ↦ λ e. ((λ k. let one' : same_piece f p ≡ true = subst (λ (z : Piece). same_piece f z ≡ true) k (same_self f) in cc (e, one')), avoids_test F p (grind arith))
+      | true ↦ λ e. absurd (grind arith)
+      | false ↦ λ e. ((λ k. let one' : same_piece f p ≡ true = subst (λ (z : Piece). same_piece f z ≡ true) k (same_self f) in cc (e, one')), avoids_test F p (grind arith))
     ] refl
 
 -- what avoids the pieces of G avoids those of F
@@ -58,8 +58,8 @@ is_covered : (G : List Piece) (f p : Piece) → list_any (λ g. same_piece g f) 
 is_covered [] f p h k e = absurd cc
 is_covered (g ∷ G) f p h k e =
     elim (same_piece g f) as (λ b. same_piece g f ≡ b → ⊥) [
-    | true ↦ λ t. k.0 (is_same g f t ∙ e)
-    | false ↦ λ t. is_covered G f p (grind arith) k.1 e
+      | true ↦ λ t. k.0 (is_same g f t ∙ e)
+      | false ↦ λ t. is_covered G f p (grind arith) k.1 e
     ] refl
 
 all_covered : (G F : List Piece) (p : Piece) → list_all (λ f. list_any (λ g. same_piece g f) G) F ≡ true → AllByRecursion (λ s. s ≡ p → ⊥) G → AllByRecursion (λ s. s ≡ p → ⊥) F
@@ -99,8 +99,8 @@ leads_either R S G F l m = record { avoids = λ u rest x k a. elim k [ inl h ↦
 pub leads_then : {A B : Type 0} (R : Language A) (S : A → Language B) (G H F : List Piece) → Leads R H F → ((x : A) → Leads (S x) G H) → Leads (Then R S) G F
 leads_then R S G H F l m = record {
   avoids = λ u rest y k a.
-    rw (k.joined, append_assoc k.front k.back rest)
-    (l.avoids k.front (k.back ++ rest) k.value k.first ((m k.value).avoids k.back rest y k.second a));
+      rw (k.joined, append_assoc k.front k.back rest)
+      (l.avoids k.front (k.back ++ rest) k.value k.first ((m k.value).avoids k.back rest y k.second a));
 }
 
 many_avoids : {A : Type 0} (R : Language A) (s : Piece) (G F : List Piece) → BeginsWith R s → list_any (λ f. same_piece f s) F ≡ false → Covers G F → (u rest : List Piece) (xs : List A) → Many R u xs → Avoids G (next rest) → Avoids F (next (u ++ rest))
@@ -160,17 +160,17 @@ finds_sign c = record { none = refl; here = same_self (symbol (byte c)); only = 
 pub starts_after : {A : Type 0} (w : String) (R : Language A) → StartsIn (After w R) (word (codes w) ∷ [])
 starts_after w R = record {
   first = λ u x k.
-    let e = (begins_then (Keyword w) (λ _. R) (word (codes w)) (begins_keyword w)).begins u x k in
-    (word (codes w), e.0, e.1, ap (λ b. b || false) (same_self (word (codes w))));
+      let e = (begins_then (Keyword w) (λ _. R) (word (codes w)) (begins_keyword w)).begins u x k in
+      (word (codes w), e.0, e.1, ap (λ b. b || false) (same_self (word (codes w))));
 }
 
 pub starts_either : {A : Type 0} (R S : Language A) (s : Piece) (ss : List Piece) → StartsIn R (s ∷ []) → StartsIn S ss → StartsIn (R ∣ S) (s ∷ ss)
 starts_either R S s ss r o = record {
   first = λ u x k.
-    elim k [
-    | inl h ↦ let f = r.first u x h in (f.0, f.1, f.2, grind arith)
-    | inr h ↦ let f = o.first u x h in (f.0, f.1, f.2, grind arith)
-    ];
+      elim k [
+        | inl h ↦ let f = r.first u x h in (f.0, f.1, f.2, grind arith)
+        | inr h ↦ let f = o.first u x h in (f.0, f.1, f.2, grind arith)
+      ];
 }
 
 -- a piece that starts a sentence is none of the stops
@@ -178,13 +178,13 @@ start_avoids : (ss F : List Piece) (p : Piece) → list_any (λ s. same_piece s 
 start_avoids [] F p h k = absurd cc
 start_avoids (s ∷ ss) F p h k =
     elim (same_piece s p) as (λ b. same_piece s p ≡ b → Avoids F (Some p)) [
-    | true ↦ λ e. subst (λ (q : Piece). Avoids F (Some q)) (is_same s p e) (each_differs F s (and_parts _ _ k).0)
-    | false ↦ λ e. start_avoids ss F p (grind arith) (and_parts _ _ k).1
+      | true ↦ λ e. subst (λ (q : Piece). Avoids F (Some q)) (is_same s p e) (each_differs F s (and_parts _ _ k).0)
+      | false ↦ λ e. start_avoids ss F p (grind arith) (and_parts _ _ k).1
     ] refl
   where
-  each_differs : (F : List Piece) (s : Piece) → list_all (λ f. not (same_piece f s)) F ≡ true → Avoids F (Some s)
-  each_differs [] s h = tt
-  each_differs (f ∷ F) s h = ((λ e. let t : same_piece f s ≡ true = subst (λ (z : Piece). same_piece f z ≡ true) e (same_self f) in grind arith), each_differs F s (and_parts _ _ h).1)
+    each_differs : (F : List Piece) (s : Piece) → list_all (λ f. not (same_piece f s)) F ≡ true → Avoids F (Some s)
+    each_differs [] s h = tt
+    each_differs (f ∷ F) s h = ((λ e. let t : same_piece f s ≡ true = subst (λ (z : Piece). same_piece f z ≡ true) e (same_self f) in grind arith), each_differs F s (and_parts _ _ h).1)
 
 pub leads_starts : {A : Type 0} (R : Language A) (ss G F : List Piece) → StartsIn R ss → list_all (λ s. list_all (λ f. not (same_piece f s)) F) ss ≡ true → Leads R G F
 leads_starts R ss G F b h = record {
@@ -210,11 +210,14 @@ rest_reads test s R S p q F r a h =
     (λ x. then_reads (Many S) (λ xs. Yields (x ∷ xs)) (many test q) (λ xs. yields (x ∷ xs)) (s ∷ F) (s ∷ F) (many_reads test s S q F a) (λ xs. weaken (Yields (x ∷ xs)) (yields (x ∷ xs)) (s ∷ F) [] (covers_test (s ∷ F) [] refl) (yields_reads (x ∷ xs))) (λ xs. leads_yields (x ∷ xs) (s ∷ F) (s ∷ F) (record { keeps = λ o k. k })))
     (λ x. leads_then (Many S) (λ xs. Yields (x ∷ xs)) (s ∷ F) (s ∷ F) F (leads_many S s (s ∷ F) F a.begins h (record { keeps = avoids_tail s F })) (λ xs. leads_yields (x ∷ xs) (s ∷ F) (s ∷ F) (record { keeps = λ o k. k })))
 
+pub keyed_items : {A : Type 0} (w : String) (R : Language A) (p : Parser A) (F : List Piece) → BeginsWith R (word (codes w)) → Reads R p F → list_any (λ f. same_piece f (word (codes w))) F ≡ false → AreItems (is_word (codes w)) (word (codes w)) R p F
+keyed_items w R p F b r h = record { finds = finds_word w; begins = b; reads = r; behind = avoids_test F (word (codes w)) h }
+
+pub parted_items : {A : Type 0} (sep : String) (R : Language A) (p : Parser A) (F : List Piece) → Reads R p F → list_any (λ f. same_piece f (symbol (byte sep))) F ≡ false → AreItems (is_sign (byte sep)) (symbol (byte sep)) (Behind sep R) (behind sep p) F
+parted_items sep R p F r h = record { finds = finds_sign sep; begins = begins_then (Sign sep) (λ _. R) (symbol (byte sep)) (begins_sign sep); reads = behind_reads sep R p F r; behind = avoids_test F (symbol (byte sep)) h }
+
 pub several_reads : {A : Type 0} (w : String) (R : Language A) (p : Parser A) (F : List Piece) → BeginsWith R (word (codes w)) → Reads R p F → list_any (λ f. same_piece f (word (codes w))) F ≡ false → Reads (Several R) (several w p) (word (codes w) ∷ F)
-several_reads w R p F b r h = rest_reads (is_word (codes w)) (word (codes w)) R R p p F r (record { finds = finds_word w; begins = b; reads = r; behind = avoids_test F (word (codes w)) h }) h
+several_reads w R p F b r h = rest_reads (is_word (codes w)) (word (codes w)) R R p p F r (keyed_items w R p F b r h) h
 
 pub apart_reads : {A : Type 0} (sep : String) (R : Language A) (p : Parser A) (F : List Piece) → Reads R p F → list_any (λ f. same_piece f (symbol (byte sep))) F ≡ false → Reads (Apart sep R) (apart sep p) (symbol (byte sep) ∷ F)
-apart_reads sep R p F r h =
-    rest_reads (is_sign (byte sep)) (symbol (byte sep)) R (Behind sep R) p (behind sep p) F r
-    (record { finds = finds_sign sep; begins = begins_then (Sign sep) (λ _. R) (symbol (byte sep)) (begins_sign sep); reads = behind_reads sep R p F r; behind = avoids_test F (symbol (byte sep)) h })
-    h
+apart_reads sep R p F r h = rest_reads (is_sign (byte sep)) (symbol (byte sep)) R (Behind sep R) p (behind sep p) F r (parted_items sep R p F r h) h

@@ -14,8 +14,8 @@ split_at (x ∷ a) b (y ∷ f) m c h =
     let e : x ≡ y = cc in
     let t : a ++ b ≡ f ++ c ∷ m = cc in
     elim (split_at a b f m c t) [
-    | inl k ↦ inl (k.0, ap (λ (z : Piece). z ∷ f) (sym e) ∙ ap (λ (zs : List Piece). x ∷ zs) k.1, k.2)
-    | inr k ↦ inr (k.0, ap (λ (z : Piece). z ∷ a) e ∙ ap (λ (zs : List Piece). y ∷ zs) k.1)
+      | inl k ↦ inl (k.0, ap (λ (z : Piece). z ∷ f) (sym e) ∙ ap (λ (zs : List Piece). x ∷ zs) k.1, k.2)
+      | inr k ↦ inr (k.0, ap (λ (z : Piece). z ∷ a) e ∙ ap (λ (zs : List Piece). y ∷ zs) k.1)
     ]
 
 -- what is next behind the same pieces is the same

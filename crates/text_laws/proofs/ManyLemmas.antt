@@ -31,7 +31,7 @@ items_more : {A : Type 0} (test : Option Piece → Bool) (p : Parser A) (n : ℕ
 items_more test p n ps rest x h k = rw (h, k)
 
 -- an item takes a piece at least
-shorter : {A : Type 0} (test : Option Piece → Bool) (s : Piece) (R : Language A) (p : Parser A) (F : List Piece) → AreItems test s R p F → (ps rest : List Piece) (x : A) → p ps ≡ done x rest → length rest < length ps
+pub shorter : {A : Type 0} (test : Option Piece → Bool) (s : Piece) (R : Language A) (p : Parser A) (F : List Piece) → AreItems test s R p F → (ps rest : List Piece) (x : A) → p ps ≡ done x rest → length rest < length ps
 shorter test s R p F a ps rest x h =
     let m = a.reads.sound ps rest x h in
     let b = a.begins.begins m.front x m.sentence in
@@ -45,14 +45,14 @@ items_enough test s R p F a (suc m) zero [] h k = items_stop test p (suc m) [] a
 items_enough test s R p F a (suc m) zero (q ∷ ps) h k = absurd (omega arith)
 items_enough {A} test s R p F a (suc m) (suc n) ps h k =
     elim (test (next ps)) as (λ b. test (next ps) ≡ b → items test p (suc m) ps ≡ items test p (suc n) ps) [
-    | false ↦ λ e. items_stop test p (suc m) ps e ∙ sym (items_stop test p (suc n) ps e)
-    | true ↦ λ e. elim (p ps) as (λ r. p ps ≡ r → items test p (suc m) ps ≡ items test p (suc n) ps) [
-      | stuck rest ↦ λ f. items_halt test p m ps rest e f ∙ sym (items_halt test p n ps rest e f)
-      | done x rest ↦ λ f.
-          let less = shorter test s R p F a ps rest x f in
-          items_more test p m ps rest x e f
-          ∙ ap (in_front x) (items_enough test s R p F a m n rest (omega (arith, less)) (omega (arith, less)))
-          ∙ sym (items_more test p n ps rest x e f)
+      | false ↦ λ e. items_stop test p (suc m) ps e ∙ sym (items_stop test p (suc n) ps e)
+      | true ↦ λ e. elim (p ps) as (λ r. p ps ≡ r → items test p (suc m) ps ≡ items test p (suc n) ps) [
+        | stuck rest ↦ λ f. items_halt test p m ps rest e f ∙ sym (items_halt test p n ps rest e f)
+        | done x rest ↦ λ f.
+            let less = shorter test s R p F a ps rest x f in
+            items_more test p m ps rest x e f
+            ∙ ap (in_front x) (items_enough test s R p F a m n rest (omega (arith, less)) (omega (arith, less)))
+            ∙ sym (items_more test p n ps rest x e f)
       ] refl
     ] refl
 
@@ -111,34 +111,34 @@ not_empty (q ∷ f) m c h = absurd cc
 sound_turn : {A : Type 0} (test : Option Piece → Bool) (s : Piece) (R : Language A) (p : Parser A) (F : List Piece) → AreItems test s R p F → (ps rest : List Piece) (xs : List A) → ((mid last : List Piece) (ys : List A) → length mid < length ps → many test p mid ≡ done ys last → HasRead (Many R) (many test p) mid ys last) → many test p ps ≡ done xs rest → HasRead (Many R) (many test p) ps xs rest
 sound_turn {A} test s R p F a ps rest xs again h =
     elim (test (next ps)) as (λ b. test (next ps) ≡ b → HasRead (Many R) (many test p) ps xs rest) [
-    | false ↦ λ e.
-        let k = sym (many_stop test p ps e) ∙ h in record {
-          front = [];
-          sentence = no_items R xs (same_value k);
-          split = same_rest k;
-          local = λ other f. many_stop test p other (ap test (f ∙ sym (ap next (same_rest k))) ∙ e) ∙ ap (λ (ys : List A). done ys other) (same_value k);
-        }
-    | true ↦ λ e. elim (p ps) as (λ r. p ps ≡ r → HasRead (Many R) (many test p) ps xs rest) [
-      | stuck mid ↦ λ f. absurd (not_both (many_halt test p ps mid a.finds.none e f) h)
-      | done x mid ↦ λ f.
-          let less = shorter test s R p F a ps mid x f in
-          let g = went_on (many test p mid) (λ ys. yields (x ∷ ys)) xs rest (sym (many_more test s R p F a ps mid x e f) ∙ h) in
-          let first = a.reads.sound ps mid x f in
-          let later = again mid g.1 g.0 less g.2 in
-          let value : x ∷ g.0 ≡ xs = same_value g.3 in
-          let last : g.1 ≡ rest = same_rest g.3 in record {
-            front = first.front ++ later.front;
-            sentence = subst (λ (ys : List A). Many R (first.front ++ later.front) ys) value (first.front, later.front, first.sentence, later.sentence, refl);
-            split = first.split ∙ ap (λ (zs : List Piece). first.front ++ zs) (later.split ∙ ap (λ (zs : List Piece). later.front ++ zs) last) ∙ sym (append_assoc first.front later.front rest);
-            local = λ other w.
-              let there : next other ≡ next g.1 = w ∙ sym (ap next last) in
-              let ahead : next (later.front ++ other) ≡ next mid = next_same later.front other g.1 there ∙ sym (ap next later.split) in
-              let on : test (next (first.front ++ (later.front ++ other))) ≡ true = ap test (begins_next R s a.begins first.front (later.front ++ other) x first.sentence) ∙ a.finds.here in
-              rw (append_assoc first.front later.front other)
-              (many_more test s R p F a (first.front ++ (later.front ++ other)) (later.front ++ other) x on (first.local (later.front ++ other) ahead)
-              ∙ ap (in_front x) (later.local other there)
-              ∙ ap (λ (ys : List A). done ys other) value);
+      | false ↦ λ e.
+          let k = sym (many_stop test p ps e) ∙ h in record {
+            front = [];
+            sentence = no_items R xs (same_value k);
+            split = same_rest k;
+            local = λ other f. many_stop test p other (ap test (f ∙ sym (ap next (same_rest k))) ∙ e) ∙ ap (λ (ys : List A). done ys other) (same_value k);
           }
+      | true ↦ λ e. elim (p ps) as (λ r. p ps ≡ r → HasRead (Many R) (many test p) ps xs rest) [
+        | stuck mid ↦ λ f. absurd (not_both (many_halt test p ps mid a.finds.none e f) h)
+        | done x mid ↦ λ f.
+            let less = shorter test s R p F a ps mid x f in
+            let g = went_on (many test p mid) (λ ys. yields (x ∷ ys)) xs rest (sym (many_more test s R p F a ps mid x e f) ∙ h) in
+            let first = a.reads.sound ps mid x f in
+            let later = again mid g.1 g.0 less g.2 in
+            let value : x ∷ g.0 ≡ xs = same_value g.3 in
+            let last : g.1 ≡ rest = same_rest g.3 in record {
+              front = first.front ++ later.front;
+              sentence = subst (λ (ys : List A). Many R (first.front ++ later.front) ys) value (first.front, later.front, first.sentence, later.sentence, refl);
+              split = first.split ∙ ap (λ (zs : List Piece). first.front ++ zs) (later.split ∙ ap (λ (zs : List Piece). later.front ++ zs) last) ∙ sym (append_assoc first.front later.front rest);
+              local = λ other w.
+                  let there : next other ≡ next g.1 = w ∙ sym (ap next last) in
+                  let ahead : next (later.front ++ other) ≡ next mid = next_same later.front other g.1 there ∙ sym (ap next later.split) in
+                  let on : test (next (first.front ++ (later.front ++ other))) ≡ true = ap test (begins_next R s a.begins first.front (later.front ++ other) x first.sentence) ∙ a.finds.here in
+                  rw (append_assoc first.front later.front other)
+                  (many_more test s R p F a (first.front ++ (later.front ++ other)) (later.front ++ other) x on (first.local (later.front ++ other) ahead)
+                  ∙ ap (in_front x) (later.local other there)
+                  ∙ ap (λ (ys : List A). done ys other) value);
+            }
       ] refl
     ] refl
 
@@ -170,17 +170,17 @@ many_from_then R ps rest k =
 halts_turn : {A : Type 0} (test : Option Piece → Bool) (s : Piece) (R : Language A) (p : Parser A) (F : List Piece) → AreItems test s R p F → (ps rest : List Piece) → ((mid : List Piece) → length mid < length ps → many test p mid ≡ stuck rest → IsStuck (Many R) mid rest) → many test p ps ≡ stuck rest → IsStuck (Many R) ps rest
 halts_turn {A} test s R p F a ps rest again h =
     elim (test (next ps)) as (λ b. test (next ps) ≡ b → IsStuck (Many R) ps rest) [
-    | false ↦ λ e. absurd (not_both h (many_stop test p ps e))
-    | true ↦ λ e. elim (p ps) as (λ r. p ps ≡ r → IsStuck (Many R) ps rest) [
-      | stuck mid ↦ λ f.
-          let same = stuck_rest (many_halt test p ps mid a.finds.none e f) h in
-          many_from_then R ps rest (first_stuck R (Others R) p F F a.reads (many_leads test s R p F a) (λ x. record { pieces = []; value = []; sentence = refl }) ps rest (f ∙ ap (λ (zs : List Piece). stuck zs) same))
-      | done x mid ↦ λ f.
-          let less = shorter test s R p F a ps mid x f in
-          elim (got_stuck (many test p mid) (λ ys. yields (x ∷ ys)) rest (sym (many_more test s R p F a ps mid x e f) ∙ h)) [
-          | inl g ↦ many_from_then R ps rest (second_stuck R (Others R) p F F a.reads (many_leads test s R p F a) ps mid rest x f (again mid less g))
-          | inr g ↦ absurd (not_both g.3 refl)
-          ]
+      | false ↦ λ e. absurd (not_both h (many_stop test p ps e))
+      | true ↦ λ e. elim (p ps) as (λ r. p ps ≡ r → IsStuck (Many R) ps rest) [
+        | stuck mid ↦ λ f.
+            let same = stuck_rest (many_halt test p ps mid a.finds.none e f) h in
+            many_from_then R ps rest (first_stuck R (Others R) p F F a.reads (many_leads test s R p F a) (λ x. record { pieces = []; value = []; sentence = refl }) ps rest (f ∙ ap (λ (zs : List Piece). stuck zs) same))
+        | done x mid ↦ λ f.
+            let less = shorter test s R p F a ps mid x f in
+            elim (got_stuck (many test p mid) (λ ys. yields (x ∷ ys)) rest (sym (many_more test s R p F a ps mid x e f) ∙ h)) [
+              | inl g ↦ many_from_then R ps rest (second_stuck R (Others R) p F F a.reads (many_leads test s R p F a) ps mid rest x f (again mid less g))
+              | inr g ↦ absurd (not_both g.3 refl)
+            ]
       ] refl
     ] refl
 

@@ -23,9 +23,9 @@ then_sound R S p f F G r s ps rest y h =
       sentence = record { front = l.front; back = m.front; value = a.0; first = l.sentence; second = m.sentence; joined = refl };
       split = l.split ∙ ap (λ (zs : List Piece). l.front ++ zs) m.split ∙ sym (append_assoc l.front m.front rest);
       local = λ other e.
-        rw (append_assoc l.front m.front other)
-        (ap (λ r'. go_on r' f) (l.local (m.front ++ other) (next_same m.front other rest e ∙ sym (ap next m.split)))
-        ∙ m.local other e);
+          rw (append_assoc l.front m.front other)
+          (ap (λ r'. go_on r' f) (l.local (m.front ++ other) (next_same m.front other rest e ∙ sym (ap next m.split)))
+          ∙ m.local other e);
     }
 
 then_complete : {A B : Type 0} (R : Language A) (S : A → Language B) (p : Parser A) (f : A → Parser B) (F G : List Piece) → Reads R p F → ((x : A) → Reads (S x) (f x) G) → ((x : A) → Leads (S x) G F) → (u rest : List Piece) (y : B) → Then R S u y → Avoids G (next rest) → (p >>= f) (u ++ rest) ≡ done y rest
@@ -48,14 +48,14 @@ first_stuck R S p F G r l alive ps rest h =
         sentence = record { front = k.front ++ b.more; back = live.pieces; value = b.value; first = b.sentence; second = live.sentence; joined = sym (append_assoc k.front b.more live.pieces) };
       };
       none = λ q others more y e t.
-        elim (split_at t.front t.back k.front more q (sym t.joined)) [
-        | inl g ↦
-            let a = leads_on (S t.value) G F (l t.value) t.back g.0 more others q y t.second g.2 in
-            let c = r.complete t.front (g.0 ++ q ∷ others) t.value t.first a in
-            let cut : ps ≡ t.front ++ (g.0 ++ q ∷ others) = k.split ∙ ap (λ (zs : List Piece). k.front ++ zs) e ∙ ap (λ (zs : List Piece). zs ++ q ∷ others) g.1 ∙ append_assoc t.front g.0 (q ∷ others) in
-            not_both h (ap p cut ∙ c)
-        | inr g ↦ k.none q others g.0 t.value e (subst (λ (zs : List Piece). R zs t.value) g.1 t.first)
-        ];
+          elim (split_at t.front t.back k.front more q (sym t.joined)) [
+            | inl g ↦
+                let a = leads_on (S t.value) G F (l t.value) t.back g.0 more others q y t.second g.2 in
+                let c = r.complete t.front (g.0 ++ q ∷ others) t.value t.first a in
+                let cut : ps ≡ t.front ++ (g.0 ++ q ∷ others) = k.split ∙ ap (λ (zs : List Piece). k.front ++ zs) e ∙ ap (λ (zs : List Piece). zs ++ q ∷ others) g.1 ∙ append_assoc t.front g.0 (q ∷ others) in
+                not_both h (ap p cut ∙ c)
+            | inr g ↦ k.none q others g.0 t.value e (subst (λ (zs : List Piece). R zs t.value) g.1 t.first)
+          ];
     }
 
 -- the second is stuck behind the first
@@ -71,12 +71,12 @@ second_stuck R S p F G r l ps mid rest x h k =
         sentence = record { front = u.front; back = k.front ++ b.more; value = x; first = u.sentence; second = b.sentence; joined = append_assoc u.front k.front b.more };
       };
       none = λ q others more y e t.
-        let whole : t.front ++ t.back ≡ u.front ++ (k.front ++ q ∷ more) = sym t.joined ∙ append_assoc u.front k.front (q ∷ more) in
-        let theirs = r.complete t.front t.back t.value t.first (subst (λ (zs : List Piece). Avoids F (next zs)) (append-nil t.back) ((l t.value).avoids t.back [] y t.second tt)) in
-        let ahead : next (k.front ++ q ∷ more) ≡ next mid = next_same k.front (q ∷ more) rest (sym (ap next e)) ∙ sym (ap next k.split) in
-        let ours = u.local (k.front ++ q ∷ more) ahead in
-        let both = sym theirs ∙ ap p whole ∙ ours in
-        k.none q others more y e (subst (λ (zs : List Piece). S x zs y) (same_rest both) (subst (λ z. S z t.back y) (same_value both) t.second));
+          let whole : t.front ++ t.back ≡ u.front ++ (k.front ++ q ∷ more) = sym t.joined ∙ append_assoc u.front k.front (q ∷ more) in
+          let theirs = r.complete t.front t.back t.value t.first (subst (λ (zs : List Piece). Avoids F (next zs)) (append-nil t.back) ((l t.value).avoids t.back [] y t.second tt)) in
+          let ahead : next (k.front ++ q ∷ more) ≡ next mid = next_same k.front (q ∷ more) rest (sym (ap next e)) ∙ sym (ap next k.split) in
+          let ours = u.local (k.front ++ q ∷ more) ahead in
+          let both = sym theirs ∙ ap p whole ∙ ours in
+          k.none q others more y e (subst (λ (zs : List Piece). S x zs y) (same_rest both) (subst (λ z. S z t.back y) (same_value both) t.second));
     }
 
 -- one after the other is read by going on
@@ -85,17 +85,17 @@ then_reads R S p f F G r s l = record {
   sound = then_sound R S p f F G r s;
   complete = then_complete R S p f F G r s l;
   halts = λ ps rest h.
-    elim (got_stuck (p ps) f rest h) [
-    | inl k ↦ first_stuck R S p F G r l (λ x. (s x).lives) ps rest k
-    | inr k ↦ second_stuck R S p F G r l ps k.1 rest k.0 k.2 ((s k.0).halts k.1 rest k.3)
-    ];
+      elim (got_stuck (p ps) f rest h) [
+        | inl k ↦ first_stuck R S p F G r l (λ x. (s x).lives) ps rest k
+        | inr k ↦ second_stuck R S p F G r l ps k.1 rest k.0 k.2 ((s k.0).halts k.1 rest k.3)
+      ];
   lives =
-    let a = r.lives in
-    let b = (s a.value).lives in record {
-      pieces = a.pieces ++ b.pieces;
-      value = b.value;
-      sentence = record { front = a.pieces; back = b.pieces; value = a.value; first = a.sentence; second = b.sentence; joined = refl };
-    };
+      let a = r.lives in
+      let b = (s a.value).lives in record {
+        pieces = a.pieces ++ b.pieces;
+        value = b.value;
+        sentence = record { front = a.pieces; back = b.pieces; value = a.value; first = a.sentence; second = b.sentence; joined = refl };
+      };
 }
 
 -- the same where anything may stand behind the first

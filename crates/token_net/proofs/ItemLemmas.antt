@@ -1,5 +1,5 @@
 -- One more element of what the items go over.
-use Rattle.std.proofs.Common.{◌≡◌, ℕ, zero, suc, ◌+◌, ◌-◌, ◌<◌, ◌≤◌, Bool, true, false, List, [], ◌∷◌, ◌++◌, length, take, get_or, Some, inl, inr, refl, sym, ap, ◌∙◌, subst, arith, append_assoc, append-nil}
+use Rattle.std.proofs.Common.{◌≡◌, ℕ, zero, suc, ◌+◌, ◌-◌, ◌<◌, ◌≤◌, Bool, true, List, [], ◌∷◌, ◌++◌, length, take, get_or, Some, inl, inr, refl, sym, ap, ◌∙◌, subst, arith, append_assoc, append-nil}
 use Rattle.std.proofs.lemmas.Bool.{cases_Bool}
 use Rattle.std.proofs.lemmas.List.{take_more, take_all, get_or_default}
 use Rattle.std.proofs.lemmas.Grind.{flat_map-append}
@@ -71,3 +71,7 @@ filter_at p (y ∷ xs) (suc i) x below is passes = elim (cases_Bool (p y)) [
 -- what is added at the end of what was made
 pub grown : {X : Type 0} (new made old part more all : List X) → new ≡ made ++ more → made ≡ old ++ part → all ≡ part ++ more → new ≡ old ++ all
 grown new made old part more all is was adds = is ∙ ap (λ l. l ++ more) was ∙ append_assoc old part more ∙ ap (λ l. old ++ l) (sym adds)
+
+-- one part more at the end of what was made
+pub and_then : {X : Type 0} (old new part next more : List X) → new ≡ old ++ part → next ≡ new ++ more → next ≡ old ++ (part ++ more)
+and_then old new part next more was is = is ∙ ap (λ l. l ++ more) was ∙ append_assoc old part more

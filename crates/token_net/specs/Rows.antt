@@ -1,5 +1,5 @@
 -- The tokens of a plan by timeline, as the code looks them up.
-use Rattle.std.specs.Prelude.{◌≡◌, ℕ, zero, suc, ◌-◌, Bool, false, cond, ℤ, neg_ℤ, negsuc, List, [], ◌∷◌, ◌++◌, length, map, flat_map, get_or, slice_get, option_map, unwrap_or, Option, Some, None}
+use Rattle.std.specs.Prelude.{◌≡◌, ℕ, zero, suc, ◌-◌, Bool, false, cond, ℤ, neg_ℤ, negsuc, List, [], ◌∷◌, ◌++◌, length, map, flat_map, get_or, slice_get, option_map, unwrap_or, Option}
 use Rattle.hs_base.specs.declared.net.Bound.{Bound}
 use Rattle.hs_base.specs.declared.mission.Kind.{Kind}
 use Rattle.hs_base.specs.declared.mission.Choice.{Choice}
@@ -7,11 +7,13 @@ use Rattle.hs_base.specs.declared.mission.Goal.{Goal}
 use Rattle.hs_base.specs.declared.mission.Mission.{Mission}
 use Rattle.hs_base.specs.declared.plan.TokenRef.{TokenRef}
 use Rattle.hs_base.specs.declared.plan.Support.{Support}
+use Rattle.hs_base.specs.declared.plan.Extension.{Extension}
 use Rattle.hs_base.specs.Schedule.{bound, numbers_from}
-use Rattle.hs_base.specs.Points.{value_of}
+use Rattle.hs_base.specs.Points.{Point, ending, place_of, points_of, tokens_of, timeline_of, value_of}
 use Rattle.hs_base.specs.Needs.{need_of, choice_by}
-use Rattle.hs_base.specs.Bounds.{apart, on_some, relation_bounds}
+use Rattle.hs_base.specs.Bounds.{apart, exactly, on_some, relation_bounds, is_fixed, point_bounds, fixed_bounds}
 use Rattle.token_net.specs.declared.table.Placed.{Placed}
+use Rattle.token_net.specs.declared.table.Table.{Table}
 
 -- the timelines of the variables, each with its tokens by place
 abbrev pub Rows : Type 0
@@ -72,3 +74,29 @@ goal_rows rows n (g ∷ gs) (t ∷ ts) = goal_row rows n g t ++ goal_rows rows n
 
 abbrev pub since_rows : List Bool → ℕ → ℤ → List Bound
 since_rows fixed n since = flat_map (λ x. cond (get_or fixed x false) [] (bound x 0 (neg_ℤ since) ∷ [])) (numbers_from 1 (n - 1))
+
+-- the rows have the tokens, and the points of these names
+pub record IsTable (vars : ℕ) (tokens : List Kind) (names : List Point) (rows : Rows) (n : ℕ) : Type 0 where
+  pub size : length rows ≡ vars
+  pub points : n ≡ length names
+  pub sizes : (v : ℕ) → length (row_of rows v) ≡ length (timeline_of tokens v)
+  pub ends : (v i : ℕ) → end_in rows n v i ≡ place_of (ending v i) names
+  pub kinds : (t : TokenRef) → kind_in rows t ≡ slice_get (timeline_of tokens t.sv.0) t.place
+
+-- the rows are those of a plan
+abbrev pub IsTableOf : ℕ → List Extension → Table → Type 0
+IsTableOf vars es t = IsTable vars (tokens_of es) (points_of es) t.rows.items t.points
+
+-- the flags are set at the points that the plan fixes
+abbrev pub AreMarked : List Extension → List Bool → Type 0
+AreMarked es flags = (x : ℕ) → get_or flags x false ≡ is_fixed es x
+
+-- the bounds of an extension by these look-ups
+abbrev pub extension_rows : Mission → Table → ℕ → Extension → List Bound
+extension_rows m t number e =
+    let rows = t.rows.items in
+    let new = t.newest.items in
+    let mark = t.points - length new - 1 in
+    on_some (slice_get m.horizons number) (λ h. exactly mark h.tick) ++ point_bounds mark (t.points - mark) ++ length_rows m rows t.points new ++ start_rows rows t.points mark new
+    ++ last_rows rows mark ++ support_rows m rows t.points e.supports ++ goal_rows rows t.points (on_some (slice_get m.horizons number) (λ h. h.goals)) e.goals
+    ++ fixed_bounds e.fixed ++ since_rows t.fixed.items t.points e.since

@@ -33,12 +33,7 @@ pub(crate) fn add_exactly(made: &mut List<Bound>, x: PointId, at: i64) -> Result
     requires { pos 0 ≤ℤ at }
     ensures { OnOk result (made.new ≡ made.old ++ exactly x.0 at) }
 {
-    add_apart(
-        made,
-        x,
-        PointId(0),
-        Range { low: at, high: at },
-    )
+    add_apart(made, x, PointId(0), Range { low: at, high: at })
 }
 
 /// The points that start and end a token.

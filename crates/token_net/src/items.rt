@@ -4,10 +4,10 @@ ghost use Rattle.hs_base.specs.Bounds.{on_some, exactly, point_bounds, fixed_bou
 ghost use Rattle.hs_base.specs.Missions.{IsMission};
 ghost use Rattle.token_net.specs.Rows.{length_row, length_rows, start_rows, last_in, last_rows, support_row, support_rows, goal_row, goal_rows, since_rows};
 
-use crate::apart::{add_apart, add_exactly, add_relation, Ends};
+use crate::apart::{Ends, add_apart, add_exactly, add_relation};
 use crate::lookups::{choice_at, need_at, value_at};
 use crate::table::{Placed, Table};
-use hs_base::{Bound, Goal, List, Memory, Mission, PointId, Range, Support, Time, TokenRef, LAST};
+use hs_base::{Bound, Goal, LAST, List, Memory, Mission, PointId, Range, Support, Time, TokenRef};
 
 const WHOLE: Range = Range { low: 0, high: LAST };
 
@@ -65,12 +65,7 @@ fn add_length(
         return Ok(());
     };
     match value_at(mission, kind) {
-        Some(value) => add_apart(
-            made,
-            table.stop(token),
-            table.start(token),
-            value.lasts,
-        ),
+        Some(value) => add_apart(made, table.stop(token), table.start(token), value.lasts),
         None => Ok(()),
     }
 }
@@ -120,11 +115,7 @@ fn add_last(made: &mut List<Bound>, row: &[Placed], mark: PointId) -> Result<(),
 
 /// Each timeline ends after the horizon.
 #[tactic(auto, using(crate::proofs::ItemLemmas::flat_more))]
-pub(crate) fn add_lasts(
-    made: &mut List<Bound>,
-    table: &Table,
-    mark: PointId,
-) -> Result<(), Memory>
+pub(crate) fn add_lasts(made: &mut List<Bound>, table: &Table, mark: PointId) -> Result<(), Memory>
     ensures { OnOk result (made.new ≡ made.old ++ last_rows table.now.rows.items mark.0) }
 {
     for row in &table.rows {
@@ -212,6 +203,23 @@ pub(crate) fn add_goals(
         add_goal(made, table, &goals[i], entries[i])?;
     }
     Ok(())
+}
+
+/// The tokens of a horizon's goals start and stop in the goals' ranges.
+pub(crate) fn add_goals_of(
+    made: &mut List<Bound>,
+    mission: &Mission,
+    table: &Table,
+    number: usize,
+    entries: &[TokenRef],
+) -> Result<(), Memory>
+    requires { IsMission mission.now }
+    ensures { OnOk result (made.new ≡ made.old ++ goal_rows table.now.rows.items table.now.points (on_some (slice_get mission.now.horizons number) (λ h. h.goals)) entries.now) }
+{
+    match mission.horizons.as_slice().get(number) {
+        Some(horizon) => add_goals(made, table, horizon.goals.as_slice(), entries),
+        None => Ok(()),
+    }
 }
 
 /// Fixed points have their times.

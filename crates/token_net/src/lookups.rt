@@ -40,9 +40,6 @@ fn need_among(needs: &[Need], kind: Kind, number: u32) -> Option<&Need>
 pub(crate) fn choice_at(need: &Need, kind: Kind) -> Option<Choice>
     ensures { result ≡ choice_by need.now kind }
 {
-    need.either
-        .as_slice()
-        .iter()
-        .copied()
-        .find(|choice| choice.by.sv.0 == kind.sv.0 && choice.by.value.0 == kind.value.0)
+    need.either.as_slice().iter().copied().find(|choice| choice.by.sv.0 == kind.sv.0
+        && choice.by.value.0 == kind.value.0)
 }

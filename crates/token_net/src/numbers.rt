@@ -16,7 +16,7 @@ pub fn points(plan: &Plan) -> u32
 
 /// The number of points of so many extensions.
 #[tactic(auto, using(crate::proofs::NumberLemmas::count_more, crate::proofs::NumberLemmas::room))]
-fn points_of_all(extensions: &[Extension]) -> u32
+pub(crate) fn points_of_all(extensions: &[Extension]) -> u32
     requires { count extensions.now < 2 ^ 32 }
     ensures { result ≡ count extensions.now }
 {

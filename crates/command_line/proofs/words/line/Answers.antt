@@ -1,9 +1,7 @@
 use Rattle.std.proofs.Common.{◌≡◌, ◌∙◌, ap, ap₂, codes, rules, true}
-use Rattle.std.proofs.lemmas.Result.{IfOk-weaker}
 use Rattle.clap.specs.Words.{App, app_of, new_rule, rule_of, with_rule}
 use Rattle.clap.specs.Simple.{app_of_fields}
-use Rattle.clap.specs.declared.builder.command.Command.{Command}
-use Rattle.command_line.specs.Line.{bare_line, line_app, option_rule}
+use Rattle.command_line.specs.Line.{bare_line, option_rule}
 use Rattle.command_line.proofs.words.line.Goals as goal
 
 pub returns : goal.returns

@@ -36,6 +36,6 @@ loop-entry-preserved c =
     let next = take-next h h i e refl c.loop-entry-test.true c.entry-item.is in
     let part = ap (λ now. deed_text m now (plan_of (take i h)) e.deed) stands.tick_is in
     let text =
-      join_after-next (entry_text m) (take i h) e (codes "hsts log 1\n") c.loop-entry.text (deed_text m c.loop-entry.progress.tick (plan_of (take i h)) e.deed) c.push_deed.new.text c.loop-entry.invariant.1
-      (c.in_ok-push_deed.ensures (plan_of (take i h)) stands.points_are) part in
+    join_after-next (entry_text m) (take i h) e (codes "hsts log 1\n") c.loop-entry.text (deed_text m c.loop-entry.progress.tick (plan_of (take i h)) e.deed) c.push_deed.new.text c.loop-entry.invariant.1
+    (c.in_ok-push_deed.ensures (plan_of (take i h)) stands.points_are) part in
     rw next (c.in_ok-take_in.ensures (take i h) stands, text)

@@ -35,4 +35,4 @@ loop-edge-preserved c =
     let n : Neighbour = record { group = get_or c.args.places.now (get_or edges c.loop-edge.edge-index d).to.0 0; most = to_z w64 (of_z w64 (get_or edges c.loop-edge.edge-index d).most) } in
     let is_n : n ≡ record { group = place_of leaders (get_or edges c.loop-edge.edge-index d).to.0; most = (get_or edges c.loop-edge.edge-index d).most } = rw (to_z-of_z w64 (get_or edges c.loop-edge.edge-index d).most fits, c.requires.places.each (get_or edges c.loop-edge.edge-index d).to.0 e.to) refl in
     c.in_ok-add.ensures.ok ∙ list_next leaders (λ (z : Bound). z.from.0) (λ (z : Bound). record { group = place_of leaders z.to.0; most = z.most }) edges c.loop-edge.edge-index d c.requires.joined.leaders c.loop-edge-test.true e.from
-        c.loop-edge.after _ n c.loop-edge.invariant (c.requires.places.each _ e.from) is_n
+    c.loop-edge.after _ n c.loop-edge.invariant (c.requires.places.each _ e.from) is_n

@@ -1,4 +1,4 @@
-use Rattle.std.proofs.Common.{◌≡◌, ◌+◌, ◌-◌, ◌++◌, take, length}
+use Rattle.std.proofs.Common.{◌≡◌, ◌++◌, take}
 use Rattle.hs_base.specs.Bounds.{fixed_bounds}
 use Rattle.token_net.proofs.items.add_fixed.Given as goal
 

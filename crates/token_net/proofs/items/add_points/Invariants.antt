@@ -1,4 +1,4 @@
-use Rattle.std.proofs.Common.{◌≡◌, ◌+◌, ◌-◌, ◌++◌, take, length}
+use Rattle.std.proofs.Common.{◌≡◌, ◌-◌, ◌++◌}
 use Rattle.hs_base.specs.Bounds.{point_bounds}
 use Rattle.token_net.proofs.items.add_points.Given as goal
 

@@ -1,4 +1,4 @@
-use Rattle.std.proofs.Common.{◌≡◌, ◌+◌, ◌-◌, ◌++◌, take, length}
+use Rattle.std.proofs.Common.{◌≡◌, ◌++◌}
 use Rattle.token_net.specs.Rows.{since_rows}
 use Rattle.token_net.proofs.items.add_since.Given as goal
 

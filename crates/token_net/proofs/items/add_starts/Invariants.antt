@@ -1,4 +1,4 @@
-use Rattle.std.proofs.Common.{◌≡◌, ◌+◌, ◌-◌, ◌++◌, take, length}
+use Rattle.std.proofs.Common.{◌≡◌, ◌++◌, take}
 use Rattle.token_net.specs.Rows.{start_rows}
 use Rattle.token_net.proofs.items.add_starts.Given as goal
 

@@ -48,8 +48,8 @@ returns c =
     let low = ap length c.raise.ensures ∙ length-raised _ c.of-2.result.now c.as_mut_slice.result.now ∙ ap length c.as_mut_slice.ensures.value in
     let waits = ap length c.release.ensures ∙ length-released c.of-3.result.now c.as_mut_slice-2.result.now ∙ ap length c.as_mut_slice-2.ensures.value in
     let r = settled c.args._net.now w c.requires.windows g c.requires.group c.args.at c.requires.unset _ (ap (λ (z : ℤ). set w.times.items g (Some z)) at)
-        (with_items_is w.low c.raise.new.low (low ∙ sym w.low.ok.0) ∙ c.raise.ensures ∙ rw (c.as_mut_slice.ensures.value, c.of-2.ensures, at) refl)
-        (c.lower.ensures ∙ rw (c.as_slice.ensures.value, c.of.ensures, c.set.ensures, at) refl)
-        (with_items_is w.waits c.release.new.waits (waits ∙ sym w.waits.ok.0) ∙ c.release.ensures ∙ rw (c.as_mut_slice-2.ensures.value, c.of-3.ensures) refl)
-        refl refl in
+    (with_items_is w.low c.raise.new.low (low ∙ sym w.low.ok.0) ∙ c.raise.ensures ∙ rw (c.as_mut_slice.ensures.value, c.of-2.ensures, at) refl)
+    (c.lower.ensures ∙ rw (c.as_slice.ensures.value, c.of.ensures, c.set.ensures, at) refl)
+    (with_items_is w.waits c.release.new.waits (waits ∙ sym w.waits.ok.0) ∙ c.release.ensures ∙ rw (c.as_mut_slice-2.ensures.value, c.of-3.ensures) refl)
+    refl refl in
     record { windows = r.windows; times = ap (λ (z : ℤ). set w.times.items g (Some z)) at; others = r.others }

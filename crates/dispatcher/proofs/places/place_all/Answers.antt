@@ -1,0 +1,65 @@
+use Rattle.std.proofs.Common.{◌≡◌, ◌∙◌, ◌+◌, ◌<◌, ap, sym, refl, subst, arith, length, get_or, set, All, ℕ, List}
+use Rattle.std.specs.Prelude.{Contains, pos}
+use Rattle.std.specs.List.{fold}
+use Rattle.std.proofs.lemmas.List.{length-map, length-set, get_or-map, get_or_default}
+use Rattle.std.proofs.lemmas.List.Elements.{All-head, All-tail}
+use Rattle.hs_base.specs.declared.net.Member.{Member}
+use Rattle.hs_base.specs.declared.net.Group.{Group}
+use Rattle.hs_base.specs.Dispatch.{stands}
+use Rattle.net_laws.proofs.NetworkLemmas.{number_at_most}
+use Rattle.dispatcher.specs.declared.places.Place.{Place}
+use Rattle.dispatcher.specs.Places.{IsNearLeader, placed, StandsAt, place_at}
+use Rattle.dispatcher.proofs.PlaceLemmas.{near_group, group_placed, all_placed, length-placed}
+use Rattle.dispatcher.proofs.places.place_all.Goals as goal
+
+pub overflow_cast-number : goal.overflow_cast-number
+overflow_cast-number c =
+    let net = c.args.net.now in
+    let i = c.loop-i.i in
+    let ii : i < length net.groups = omega (arith, ap length c.as_slice-groups.ensures, c.loop-i-test.true) in
+    let most = number_at_most (length c.args.places.now) net c.requires i (omega (arith, ii, length-map net.groups (λ (g : Group). g.leader.0))) in
+    let is = get_or-map (λ (g : Group). g.leader.0) net.groups i c.index-groups-i.result 0 ii in
+    let same = ap (λ gs. (get_or gs i c.index-groups-i.result).leader.0) c.as_slice-groups.ensures in
+    omega (arith, most, is, same, c.index-groups-i.element_fits)
+
+-- the leader and the members that are read
+leader_read : (gs read : List Group) (i : ℕ) (d : Group) → read ≡ gs → (get_or read i d).leader.0 ≡ (get_or gs i d).leader.0
+leader_read gs read i d same = ap (λ (z : List Group). (get_or z i d).leader.0) same
+
+members_read : (gs read : List Group) (i : ℕ) (d e : Group) → read ≡ gs → i < length gs → (get_or read i e).members ≡ (get_or gs i d).members
+members_read gs read i d e same ii = ap (λ (z : List Group). (get_or z i e).members) same ∙ ap (λ (g : Group). g.members) (get_or_default gs i e d ii)
+
+pub bounds-places-leader : goal.bounds-places-leader
+bounds-places-leader c =
+    let net = c.args.net.now in
+    let i = c.loop-i.i in
+    let d = c.index-groups-i.result in
+    let ii : i < length net.groups = omega (arith, ap length c.as_slice-groups.ensures, c.loop-i-test.true) in
+    let near = near_group (length c.args.places.now) net c.requires i (length c.loop-i.places) d ii c.loop-i.auto.places in
+    omega (arith, leader_read net.groups c.as_slice-groups.result.now i d c.as_slice-groups.ensures, (All-head (IsNearLeader (length c.loop-i.places)) _ _ near).below)
+
+pub place_members-requires : goal.place_members-requires
+place_members-requires c =
+    let net = c.args.net.now in
+    let i = c.loop-i.i in
+    let d = c.index-groups-i.result in
+    let ii : i < length net.groups = omega (arith, ap length c.as_slice-groups.ensures, c.loop-i-test.true) in
+    let near = near_group (length c.args.places.now) net c.requires i (length c.loop-i.places) d ii c.loop-i.auto.places in
+    let p : Place = record { group = i; offset = pos 0 } in
+    let is : c.as_slice.result.now ≡ (get_or net.groups i d).members = c.as_slice.ensures ∙ members_read net.groups c.as_slice-groups.result.now i d c.index-groups-i-in-loop-i.result c.as_slice-groups.ensures ii in
+    rw (length-set c.loop-i.places (get_or c.as_slice-groups.result.now i d).leader.0 p, is) (All-tail (IsNearLeader (length c.loop-i.places)) _ _ near)
+
+pub loop-i-preserved : goal.loop-i-preserved
+loop-i-preserved c =
+    let net = c.args.net.now in
+    let i = c.loop-i.i in
+    let d = c.index-groups-i.result in
+    let ii : i < length net.groups = omega (arith, ap length c.as_slice-groups.ensures, c.loop-i-test.true) in
+    let is : c.as_slice.result.now ≡ (get_or net.groups i d).members = c.as_slice.ensures ∙ members_read net.groups c.as_slice-groups.result.now i d c.index-groups-i-in-loop-i.result c.as_slice-groups.ensures ii in
+    let new : c.place_members.new.places ≡ fold (placed i) c.loop-i.places (stands (get_or net.groups i d)) = c.place_members.ensures ∙ rw (is, leader_read net.groups c.as_slice-groups.result.now i d c.as_slice-groups.ensures) refl in
+    λ j g m ji jj im. rw new (group_placed (length c.args.places.now) net c.requires i d c.loop-i.places ii c.loop-i.auto.places c.loop-i.invariant j g m ji jj im)
+
+pub returns : goal.returns
+returns c =
+    let net = c.args.net.now in
+    all_placed (length c.args.places.now) net c.requires c.loop-i.places c.loop-i.auto.places (λ j g m jj im. c.loop-i.invariant j g m (omega (arith, jj, ap length c.as_slice-groups.ensures, c.loop-i-test.false)) jj im)
