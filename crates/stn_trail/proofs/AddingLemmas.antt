@@ -1,4 +1,4 @@
-use Rattle.std.proofs.Common.{◌≡◌, ℕ, ◌+◌, ◌-◌, ◌<◌, ◌≤◌, List, [], ◌∷◌, ◌++◌, length, take, drop, set, get_or, All, ℤ, pos, refl, ap, ◌∙◌, sym, subst, arith, length-set}
+use Rattle.std.proofs.Common.{◌≡◌, ℕ, ◌+◌, ◌-◌, List, [], ◌∷◌, ◌++◌, length, take, drop, set, get_or, All, ℤ, pos, refl, ap, ◌∙◌, sym, subst, arith, length-set}
 use Rattle.std.proofs.lemmas.List.{get_or_read, get_or-set_same, take_at, length_push}
 use Rattle.hs_base.specs.declared.net.Bound.{Bound}
 use Rattle.hs_base.specs.Schedule.{time_of, Meets}
@@ -24,6 +24,7 @@ pub record IsAdding (first count : ℕ) (steps : List Step) (rows : List (List B
   pub steps_is : steps' ≡ steps ++ step ∷ []
   pub rows_is : rows' ≡ set rows b.to.0 (row_at rows b.to.0 ++ b ∷ [])
 
+-- once the bound was pushed to both
 pub IsAdding-pushed : (first count : ℕ) (steps : List Step) (rows : List (List Bound)) (moves : List Move) (times : List ℤ) (b : Bound) (held : Held) (steps' : List Step) (n : ℕ) (row row' : List Bound)
     → IsTrail first count steps rows moves times → record { first = first; parts = parts_of steps; times = take count times } ≡ held → IsInRange (points_of held) b
     → steps' ≡ steps ++ record { part = Added b; since = n } ∷ [] → n ≡ length moves
@@ -41,6 +42,7 @@ IsAdding-pushed first count steps rows moves times b held steps' n row row' t is
       rows_is = ap (set rows b.to.0) (pushed ∙ ap (λ (xs : List Bound). xs ++ b ∷ []) (get_or_read rows b.to.0 row (omega arith) read []));
     }
 
+-- what is then known of bounds, rows and times, and of the trail once the bound is kept or refused
 module _ (first count : ℕ) (steps : List Step) (rows : List (List Bound)) (moves : List Move) (times : List ℤ) (b : Bound) (steps' : List Step) (rows' : List (List Bound))
     (h : IsAdding first count steps rows moves times b steps' rows') where
   pub added_is : added (parts_of steps') ≡ added (parts_of steps) ++ b ∷ []

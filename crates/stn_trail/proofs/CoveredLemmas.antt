@@ -1,13 +1,12 @@
-use Rattle.std.proofs.Common.{◌≡◌, ℕ, zero, suc, ◌<◌, ◌≤◌, ◌+◌, List, [], ◌∷◌, ◌++◌, length, drop, set, get_or, ℤ, pos, ◌-ℤ◌, ◌<ℤ◌, ◌≤ℤ◌, refl, ap, ◌∙◌, sym, subst, arith, ⊎_elim, inl, inr, ◌⊎◌, Contains, get_or-set_same, get_or-set_other}
+use Rattle.std.proofs.Common.{◌≡◌, ℕ, zero, suc, ◌<◌, List, [], ◌∷◌, ◌++◌, length, set, ℤ, pos, ◌-ℤ◌, ◌<ℤ◌, ap, ◌∙◌, sym, subst, arith, inl, inr, ◌⊎◌, Contains, get_or-set_same, get_or-set_other}
 use Rattle.std.proofs.lemmas.Int.{ints}
 use Rattle.std.proofs.lemmas.Bool.{cases_eq}
-use Rattle.std.proofs.lemmas.List.{drop_more}
 use Rattle.std.proofs.lemmas.List.Elements.{Contains-push, Contains-append_left}
 use Rattle.hs_base.specs.declared.net.Bound.{Bound}
 use Rattle.hs_base.specs.Schedule.{time_of, Holds}
 use Rattle.stn_trail.specs.declared.raised.Raised.{Raised}
-use Rattle.stn_trail.specs.Rows.{row_at, IsIn}
-use Rattle.stn_trail.specs.Covered.{entry_of, IsCovered, AreCovered}
+use Rattle.stn_trail.specs.Rows.{row_at}
+use Rattle.stn_trail.specs.Covered.{entry_of, AreCovered}
 
 -- an element of a list is its first or one of the rest
 pub Contains-cons_cases : {X : Type 0} (x : X) (xs : List X) (y : X) → Contains (x ∷ xs) y → (x ≡ y) ⊎ Contains xs y
@@ -52,7 +51,7 @@ AreCovered-raised rows times waiting c left z h inside apart due later =
             (new_is b.to.0 s) (Contains-push waiting new)))
         | inr n ↦ elim (h.each b i) [
           | inl holds ↦ inl (kept b n holds)
-          | inr (inl waits) ↦ inr (inl (subst (λ (r : Raised). Contains (waiting ++ new ∷ []) r)
+          | inr (inl waits) ↦ inr (inl (subst (λ (r : Raised). Contains (waiting ++ new ∷ []) r) {x = entry_of times b.to.0}
               (ap (λ (t : ℤ). record { point = b.to.0; time = t }) (sym (other b.to.0 n))) (Contains-append_left waiting (new ∷ []) (entry_of times b.to.0) waits)))
           | inr (inr looks) ↦ elim (Contains-cons_cases c left b looks) [
             | inl same ↦ inl (let e = other b.to.0 n in

@@ -1,17 +1,14 @@
-use Rattle.std.proofs.Common.{◌≡◌, ℕ, zero, suc, ◌+◌, ◌-◌, ◌<◌, ◌≤◌, List, [], ◌∷◌, ◌++◌, length, take, drop, map, set, get_or, All, ℤ, pos, ◌-ℤ◌, ◌≤ℤ◌, refl, ap, ◌∙◌, sym, subst, arith, inl, inr, length-set, replicate}
-use Rattle.std.specs.List.{AllByRecursion}
+use Rattle.std.proofs.Common.{◌≡◌, ℕ, ◌+◌, ◌<◌, ◌≤◌, List, [], ◌∷◌, ◌++◌, length, take, drop, map, set, get_or, All, ℤ, pos, refl, ap, ◌∙◌, sym, subst, arith, inl, inr, length-set, replicate}
 use Rattle.std.proofs.lemmas.Int.{ints}
 use Rattle.std.proofs.lemmas.Bool.{cases_lt, cases_eq}
-use Rattle.std.proofs.lemmas.List.{map-append, take-map, take_all, take-append-le, take-take, take_at, drop_all, drop-append-le, take-append-drop, get_or_append_left, get_or_push, get_or_past, get_or_default, get_or-take, get_or-replicate, length_push, length-map, length-take-le, set-append_left}
-use Rattle.std.proofs.lemmas.List.Elements.{All-weaker, All-contains, All-from_recursion, recursion_from_All, All-tail, All-drop}
+use Rattle.std.proofs.lemmas.List.{map-append, take_all, take-append-le, drop_all, drop-append-le, take-append-drop, get_or_append_left, get_or_push, get_or_past, get_or_default, get_or-replicate, length_push, length-map, length-take-le, set-append_left}
+use Rattle.std.proofs.lemmas.List.Elements.{All-weaker, All-from_recursion, recursion_from_All, All-tail, All-drop}
 use Rattle.hs_base.specs.declared.net.Bound.{Bound}
 use Rattle.hs_base.specs.Schedule.{Schedule, time_of, Holds, Meets}
-use Rattle.stn_distance.specs.Ranges.{IsInRange}
 use Rattle.stn_trail.specs.declared.moves.Move.{Move}
-use Rattle.stn_trail.specs.declared.part.Part.{Part}
 use Rattle.stn_trail.specs.declared.part.Step.{Step}
 use Rattle.stn_trail.specs.Moves.{restored, times_at, KeepsPast}
-use Rattle.stn_trail.specs.Held.{grown, added}
+use Rattle.stn_trail.specs.Held.{added}
 use Rattle.stn_trail.specs.History.{parts_of, moves_at, StandsAt, IsHistory}
 use Rattle.stn_trail.proofs.MoveLemmas.{restored-append}
 
@@ -29,6 +26,7 @@ moves_at-push steps s moves moves' k e h =
 pub moves_at-end : (steps : List Step) (moves : List Move) (k : ℕ) → length steps ≤ k → moves_at steps moves k ≡ length moves
 moves_at-end steps moves k h = let f : Step → ℕ = λ x. x.since in let n = length-map steps f in get_or_past (map f steps) k (length moves) (omega arith)
 
+-- and the times are those of now
 pub times_at-end : (moves : List Move) (times : List ℤ) → times_at (length moves) moves times ≡ times
 times_at-end moves times = ap (λ (ms : List Move). restored ms times) (drop_all (length moves) moves (omega arith))
 
@@ -39,6 +37,7 @@ StandsAt-now first steps moves times h =
     subst (λ (ss : List Step). StandsAt first (parts_of ss) times) (take_all n steps (omega arith))
     (subst (StandsAt first (parts_of (take n steps))) (ap (λ (k : ℕ). times_at k moves times) (moves_at-end steps moves n (omega arith)) ∙ times_at-end moves times) (h.stood n (omega arith)))
 
+-- a step more
 pub IsHistory-push : (first : ℕ) (steps : List Step) (s : Step) (moves : List Move) (times : List ℤ) (moves' : List Move) (times' : List ℤ)
     → IsHistory first steps moves times → KeepsPast (length moves) moves times moves' times' → s.since ≡ length moves
     → StandsAt first (parts_of (steps ++ s ∷ [])) times' → IsHistory first (steps ++ s ∷ []) moves' times'
@@ -146,10 +145,12 @@ Meets-agree bounds t u e m = record {
   each = recursion_from_All (Holds u) bounds (All-weaker (Holds t) (Holds u) (λ b h. (let x = e b.to.0 in let y = e b.from.0 in omega (arith, ints))) bounds (All-from_recursion (Holds t) bounds m.each));
 }
 
+-- no time is lost
 pub length-restored : (moves : List Move) (times : List ℤ) → length (restored moves times) ≡ length times
 length-restored [] times = refl
 length-restored (m ∷ ms) times = length-set (restored ms times) m.point m.time ∙ length-restored ms times
 
+-- moves are taken back alike with one time more
 restored-grown : (moves : List Move) (times : List ℤ) → All (λ m. m.point < length times) moves → restored moves (times ++ pos 0 ∷ []) ≡ restored moves times ++ pos 0 ∷ []
 restored-grown [] times h = refl
 restored-grown (m ∷ ms) times h =

@@ -1,7 +1,7 @@
-use Rattle.std.proofs.Common.{◌≡◌, ℕ, ◌≤◌, ◌<◌, List, [], ◌∷◌, ◌++◌, length, drop, length-append, take, set, get_or, ℤ, pos, refl, ap, ◌∙◌, sym, subst, arith}
+use Rattle.std.proofs.Common.{◌≡◌, ℕ, ◌≤◌, List, [], ◌∷◌, ◌++◌, length, drop, length-append, set, get_or, ℤ, pos, refl, ap, ◌∙◌, arith}
 use Rattle.std.proofs.lemmas.List.{drop-append-le, set-set, set-get_or}
 use Rattle.stn_trail.specs.declared.moves.Move.{Move}
-use Rattle.stn_trail.specs.Moves.{restored, times_at, KeepsPast}
+use Rattle.stn_trail.specs.Moves.{restored, KeepsPast}
 
 -- the later moves are taken back first
 pub restored-append : (xs ys : List Move) (times : List ℤ) → restored (xs ++ ys) times ≡ restored xs (restored ys times)

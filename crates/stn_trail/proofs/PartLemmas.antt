@@ -1,5 +1,5 @@
-use Rattle.std.proofs.Common.{◌≡◌, ℕ, zero, suc, ◌+◌, ◌<◌, ◌≤◌, List, [], ◌∷◌, ◌++◌, length, take, map, get_or, refl, ap, ◌∙◌, sym, arith, append_assoc}
-use Rattle.std.proofs.lemmas.List.{map-append, take_more, append-nil}
+use Rattle.std.proofs.Common.{◌≡◌, ℕ, ◌+◌, ◌<◌, List, [], ◌∷◌, ◌++◌, length, take, map, get_or, refl, ap, ◌∙◌, arith}
+use Rattle.std.proofs.lemmas.List.{map-append, take_more}
 use Rattle.hs_base.specs.declared.net.Bound.{Bound}
 use Rattle.stn_trail.specs.declared.part.Part.{Part}
 use Rattle.stn_trail.specs.declared.part.Part.TheVariants.{Grown, Added}
@@ -7,11 +7,13 @@ use Rattle.stn_trail.specs.declared.part.Step.{Step}
 use Rattle.stn_trail.specs.Held.{grown, added}
 use Rattle.stn_trail.specs.History.{parts_of}
 
+-- the bounds of parts one after another
 pub added-append : (ps qs : List Part) → added (ps ++ qs) ≡ added ps ++ added qs
 added-append [] qs = refl
 added-append (Grown ∷ ps) qs = added-append ps qs
 added-append (Added b ∷ ps) qs = ap (λ (bs : List Bound). b ∷ bs) (added-append ps qs)
 
+-- the points of parts one after another
 pub grown-append : (ps qs : List Part) → grown (ps ++ qs) ≡ grown ps + grown qs
 grown-append [] qs = omega arith
 grown-append (Grown ∷ ps) qs = let ih = grown-append ps qs in omega arith

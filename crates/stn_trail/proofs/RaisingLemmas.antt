@@ -1,17 +1,18 @@
-use Rattle.std.proofs.Common.{◌≡◌, ℕ, ◌<◌, ◌≤◌, ◌+◌, List, [], ◌∷◌, ◌++◌, length, vec_len, drop, set, get_or, ℤ, pos, ◌-ℤ◌, ◌<ℤ◌, ◌≤ℤ◌, refl, ap, ◌∙◌, sym, subst, arith, Contains, get_or-set_other, length-set}
+use Rattle.std.proofs.Common.{◌≡◌, ℕ, ◌<◌, ◌≤◌, ◌+◌, List, [], ◌∷◌, ◌++◌, length, vec_len, drop, set, get_or, ℤ, pos, ◌-ℤ◌, ◌<ℤ◌, ◌≤ℤ◌, ap, ◌∙◌, sym, subst, arith, Contains, get_or-set_other}
 use Rattle.std.proofs.lemmas.Int.{ints}
 use Rattle.std.proofs.lemmas.List.{drop_more}
 use Rattle.std.proofs.lemmas.List.Elements.{Contains-get_or, All-push}
 use Rattle.hs_base.specs.declared.net.Bound.{Bound}
-use Rattle.hs_base.specs.Schedule.{time_of, Holds}
+use Rattle.hs_base.specs.Schedule.{time_of}
 use Rattle.stn_trail.specs.declared.moves.Move.{Move}
 use Rattle.stn_trail.specs.declared.times.Times.{Times}
 use Rattle.stn_trail.specs.declared.raised.Raised.{Raised}
-use Rattle.stn_trail.specs.Moves.{times_at, KeepsPast}
+use Rattle.stn_trail.specs.Moves.{KeepsPast}
 use Rattle.stn_trail.specs.Rows.{row_at, IsIn, AreRows}
 use Rattle.stn_trail.specs.Covered.{AreCovered, AreBelow}
 use Rattle.stn_trail.proofs.CoveredLemmas.{AreCovered-kept, AreCovered-raised}
 
+-- what keeps the past twice keeps it
 pub KeepsPast-then : (n k : ℕ) (moves : List Move) (times : List ℤ) (moves' : List Move) (times' : List ℤ) (moves'' : List Move) (times'' : List ℤ)
     → KeepsPast n moves times moves' times' → KeepsPast k moves' times' moves'' times'' → n ≤ k → KeepsPast n moves times moves'' times''
 KeepsPast-then n k moves times moves' times' moves'' times'' a b h =
@@ -43,24 +44,29 @@ pub record Spreads (rows : List (List Bound)) (old new : Times) (queue : List Ra
   pub origin : time_of new.ticks.items 0 ≡ time_of old.ticks.items 0
   pub past : KeepsPast (vec_len old.moves) old.moves.items old.ticks.items new.moves.items new.ticks.items
 
+-- a bound that is read from a row stands in it
 pub bound_in_row : (rows : List (List Bound)) (point : ℕ) (row : List Bound) (place : ℕ) (d : Bound) → row ≡ row_at rows point → place < length row
     → Contains (row_at rows point) (get_or row place d)
 bound_in_row rows point row place d e l = subst (λ (xs : List Bound). Contains xs (get_or row place d)) e (Contains-get_or row place d l)
 
+-- its start has a row
 pub start_below : (rows : List (List Bound)) (point : ℕ) (row : List Bound) (place : ℕ) (d : Bound) → row ≡ row_at rows point → AreRows rows → place < length row
     → (get_or row place d).from.0 < length rows
 start_below rows point row place d e r l = r.starts point (get_or row place d) (bound_in_row rows point row place d e l)
 
+-- it stands in the row of its end
 pub bound_is_in : (rows : List (List Bound)) (point : ℕ) (row : List Bound) (place : ℕ) (d : Bound) → row ≡ row_at rows point → AreRows rows → place < length row
     → IsIn rows (get_or row place d)
 bound_is_in rows point row place d e r l =
     let i = bound_in_row rows point row place d e l in
     subst (λ (v : ℕ). Contains (row_at rows v) (get_or row place d)) (sym (r.ends point (get_or row place d) i)) i
 
+-- what is left from a place on, the bound at the place first
 left_is : (rows : List (List Bound)) (times : List ℤ) (queue : List Raised) (row : List Bound) (place : ℕ) (d : Bound) → place < length row
     → AreCovered rows times queue (drop place row) → AreCovered rows times queue (get_or row place d ∷ drop (place + 1) row)
 left_is rows times queue row place d l h = subst (λ (xs : List Bound). AreCovered rows times queue xs) (drop_more row place d l) h
 
+-- a step of the loop at a bound that is kept
 pub IsRaising-kept : (rows : List (List Bound)) (point : ℕ) (row : List Bound) (here : ℤ) (place : ℕ) (times : List ℤ) (queue : List Raised) (d : Bound)
     → IsRaising rows point row here place times queue → AreRows rows → place < length row
     → (here -ℤ (get_or row place d).most) ≤ℤ time_of times (get_or row place d).from.0
@@ -76,6 +82,7 @@ IsRaising-kept rows point row here place times queue d h r l k =
       below = h.below;
     }
 
+-- a step of the loop at a bound whose start is raised
 pub IsRaising-raised : (rows : List (List Bound)) (point : ℕ) (row : List Bound) (here : ℤ) (place : ℕ) (times : List ℤ) (queue : List Raised) (d : Bound) (z : ℤ)
     → IsRaising rows point row here place times queue → AreRows rows → place < length row → length rows ≤ length times
     → ((get_or row place d).from.0 ≡ point → ⊥)

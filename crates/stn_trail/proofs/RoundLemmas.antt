@@ -1,10 +1,8 @@
-use Rattle.std.proofs.Common.{◌≡◌, ◌≢◌, ℕ, zero, suc, ◌<◌, ◌≤◌, ◌+◌, ◌-◌, List, [], ◌∷◌, ◌++◌, length, drop, length-drop, get_or, get_or-drop, ℤ, pos, ◌+ℤ◌, ◌<ℤ◌, refl, ap, ◌∙◌, sym, subst, arith, All, AllPairs}
+use Rattle.std.proofs.Common.{◌≡◌, ◌≢◌, ℕ, zero, suc, ◌<◌, List, [], ◌∷◌, ◌++◌, length, drop, length-drop, get_or, ℤ, pos, ◌+ℤ◌, ◌<ℤ◌, refl, ap, ◌∙◌, sym, subst, arith, All, AllPairs}
 use Rattle.std.proofs.lemmas.Int.{ints}
-use Rattle.std.proofs.lemmas.List.{get_or_default, drop_more}
 use Rattle.std.proofs.lemmas.List.Elements.{All-push}
 use Rattle.hs_base.specs.declared.ids.PointId.{PointId}
 use Rattle.hs_base.specs.declared.net.Bound.{Bound}
-use Rattle.hs_base.specs.Schedule.{bound}
 use Rattle.hs_base.specs.Cycles.{Leads, total}
 use Rattle.stn_trail.specs.Rows.{IsIn}
 use Rattle.stn_trail.specs.Rounds.{IsRound}
@@ -14,15 +12,18 @@ abbrev pub Follows : (ℕ → Bound) → ℕ → ℕ → List Bound → ℕ → 
 Follows cause goal p [] q = p ≡ q
 Follows cause goal p (b ∷ bs) q = (b ≡ cause p) × (b.from.0 ≡ p) × (p ≡ goal → ⊥) × Follows cause goal b.to.0 bs q
 
+-- one cause more
 pub Follows-push : (cause : ℕ → Bound) (goal p : ℕ) (xs : List Bound) (q : ℕ) (b : Bound) → Follows cause goal p xs q
     → b ≡ cause q → b.from.0 ≡ q → (q ≡ goal → ⊥) → Follows cause goal p (xs ++ b ∷ []) b.to.0
 Follows-push cause goal p [] q b f e s n = (e ∙ ap cause (sym f), s ∙ sym f, (λ k. n (sym f ∙ k)), refl)
 Follows-push cause goal p (x ∷ xs) q b f e s n = (f.0, f.1, f.2, Follows-push cause goal x.to.0 xs q b f.3 e s n)
 
+-- a way along causes is a way along bounds
 Follows-leads : (cause : ℕ → Bound) (goal p : ℕ) (xs : List Bound) (q : ℕ) → Follows cause goal p xs q → Leads p xs q
 Follows-leads cause goal p [] q f = f
 Follows-leads cause goal p (x ∷ xs) q f = (f.1, Follows-leads cause goal x.to.0 xs q f.3)
 
+-- the rest of a way
 Follows-drop : (cause : ℕ → Bound) (goal p : ℕ) (xs : List Bound) (q k : ℕ) (d : Bound) → Follows cause goal p xs q → k < length xs
     → Follows cause goal (get_or xs k d).from.0 (drop k xs) q
 Follows-drop cause goal p [] q k d f l = absurd (omega arith)
@@ -37,6 +38,7 @@ one_way cause goal p (x ∷ xs) [] f g = absurd (f.2 g)
 one_way cause goal p (x ∷ xs) (y ∷ ys) f g =
     ap (λ (k : ℕ). suc k) (one_way cause goal x.to.0 xs ys f.3 (subst (λ (v : ℕ). Follows cause goal v ys goal) (ap (λ (b : Bound). b.to.0) (g.0 ∙ sym f.0)) g.3))
 
+-- no bound of a way begins at the goal
 Follows-start : (cause : ℕ → Bound) (goal p : ℕ) (xs : List Bound) (q k : ℕ) (d : Bound) → Follows cause goal p xs q → k < length xs → (get_or xs k d).from.0 ≡ goal → ⊥
 Follows-start cause goal p [] q k d f l = absurd (omega arith)
 Follows-start cause goal p (x ∷ xs) q zero d f l = λ e. f.2 (sym f.1 ∙ e)
@@ -50,6 +52,7 @@ apart cause goal p xs i j d f lij lj e =
     (subst (λ (v : ℕ). Follows cause goal v (drop i xs) goal) e (Follows-drop cause goal p xs goal i d f (omega arith))) (Follows-drop cause goal p xs goal j d f lj) in
     let a = length-drop i xs in let b = length-drop j xs in omega arith
 
+-- the sum with one bound more
 total-push : (xs : List Bound) (b : Bound) → total (xs ++ b ∷ []) ≡ total xs +ℤ b.most
 total-push [] b = omega (arith, ints)
 total-push (x ∷ xs) b = let ih = total-push xs b in omega (arith, ints)
@@ -62,6 +65,7 @@ pub record IsWay (rows : List (List Bound)) (cause : ℕ → Bound) (first : Bou
   pub follows : Follows cause first.from.0 first.to.0 rest at
   pub sum_is : sum ≡ total cycle
 
+-- the way is the first bound
 pub IsWay-start : (rows : List (List Bound)) (cause : ℕ → Bound) (first : Bound) (sum : ℤ) → IsIn rows first → sum ≡ first.most
     → IsWay rows cause first ([] ++ first ∷ []) first.to.0 sum
 IsWay-start rows cause first sum i e = record {
@@ -72,6 +76,7 @@ IsWay-start rows cause first sum i e = record {
   sum_is = omega (arith, ints);
 }
 
+-- the way with one cause more
 pub IsWay-more : (rows : List (List Bound)) (cause : ℕ → Bound) (first : Bound) (cycle : List Bound) (at : ℕ) (sum : ℤ) (b : Bound) (sum' : ℤ)
     → IsWay rows cause first cycle at sum → (at ≡ first.from.0 → ⊥) → b ≡ cause at → b.from.0 ≡ at → IsIn rows b → sum' ≡ sum +ℤ b.most
     → IsWay rows cause first (cycle ++ b ∷ []) b.to.0 sum'
@@ -83,6 +88,7 @@ IsWay-more rows cause first cycle at sum b sum' w n e s i a = record {
   sum_is = (let t = total-push cycle b in let u = w.sum_is in omega (arith, ints));
 }
 
+-- a way that comes back to its start is a round
 pub IsRound-closed : (rows : List (List Bound)) (cause : ℕ → Bound) (first : Bound) (cycle : List Bound) (at : ℕ) (sum : ℤ)
     → IsWay rows cause first cycle at sum → at ≡ first.from.0 → sum <ℤ pos 0 → IsRound rows cycle
 IsRound-closed rows cause first cycle at sum w e n =

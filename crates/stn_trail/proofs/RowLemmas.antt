@@ -1,10 +1,11 @@
-use Rattle.std.proofs.Common.{◌≡◌, ℕ, zero, suc, ◌+◌, ◌-◌, ◌<◌, ◌≤◌, Bool, true, false, cond, eqb, List, [], ◌∷◌, ◌++◌, length, take, set, get_or, filter, All, Contains, refl, ap, ◌∙◌, sym, subst, arith, inl, inr, length-set, get_or-set_same, get_or-set_other}
+use Rattle.std.proofs.Common.{◌≡◌, ℕ, zero, suc, ◌+◌, ◌-◌, ◌<◌, Bool, true, false, cond, List, [], ◌∷◌, ◌++◌, length, take, set, filter, All, Contains, refl, ap, ◌∙◌, sym, subst, arith, inl, inr, length-set, get_or-set_same, get_or-set_other}
 use Rattle.std.proofs.lemmas.Bool.{cases_eq, cases_lt, eqb-true, eq-eqb, ne_eqb}
 use Rattle.std.proofs.lemmas.List.{get_or_past, get_or_append_left, get_or_push, length_push, append-nil, take_at}
 use Rattle.std.proofs.lemmas.List.Elements.{filter-append, filter_passes, All-filter, All-contains, All-contains_itself}
 use Rattle.hs_base.specs.declared.net.Bound.{Bound}
 use Rattle.stn_trail.specs.Rows.{row_at, IsIn, AreRows, ends_at, AreRowsOf}
 
+-- an element that passes is one of those that pass
 Contains-filter : (p : Bound → Bool) (xs : List Bound) (b : Bound) → Contains xs b → p b ≡ true → Contains (filter p xs) b
 Contains-filter p [] b c t = absurd (let l = c.1 in omega arith)
 Contains-filter p (x ∷ xs) b (zero, l, e) t =
@@ -32,18 +33,21 @@ pub bounds_row : (bounds : List Bound) (rows : List (List Bound)) (b : Bound) �
 bounds_row bounds rows b h lt c =
     subst (λ (xs : List Bound). Contains xs b) (sym (h.each b.to.0 lt)) (Contains-filter (ends_at b.to.0) bounds b c (eq-eqb b.to.0 b.to.0 refl))
 
+-- rows of bounds are rows
 pub AreRows-of : (bounds : List Bound) (rows : List (List Bound)) → AreRowsOf bounds rows → All (λ b. b.from.0 < length rows) bounds → AreRows rows
 AreRows-of bounds rows h below = record {
   ends = λ v b c. (row_bounds bounds rows v b h c).1;
   starts = λ v b c. All-contains (λ b. b.from.0 < length rows) bounds b below (row_bounds bounds rows v b h c).0;
 }
 
+-- a bound more that ends at the point, and one that does not
 filter-push : (v : ℕ) (bounds : List Bound) (b : Bound) → b.to.0 ≡ v → filter (ends_at v) (bounds ++ b ∷ []) ≡ filter (ends_at v) bounds ++ b ∷ []
 filter-push v bounds b e = filter-append (ends_at v) bounds (b ∷ []) ∙ ap (λ (t : Bool). filter (ends_at v) bounds ++ cond t (b ∷ []) []) (eq-eqb b.to.0 v e)
 
 filter-push_other : (v : ℕ) (bounds : List Bound) (b : Bound) → (b.to.0 ≡ v → ⊥) → filter (ends_at v) (bounds ++ b ∷ []) ≡ filter (ends_at v) bounds
 filter-push_other v bounds b n = filter-append (ends_at v) bounds (b ∷ []) ∙ ap (λ (t : Bool). filter (ends_at v) bounds ++ cond t (b ∷ []) []) (ne_eqb b.to.0 v n) ∙ append-nil (filter (ends_at v) bounds)
 
+-- a bound goes to the end of its row
 pub AreRowsOf-push : (bounds : List Bound) (rows : List (List Bound)) (b : Bound) → AreRowsOf bounds rows → b.to.0 < length rows
     → AreRowsOf (bounds ++ b ∷ []) (set rows b.to.0 (row_at rows b.to.0 ++ b ∷ []))
 AreRowsOf-push bounds rows b h l =
@@ -56,6 +60,7 @@ AreRowsOf-push bounds rows b h l =
       ];
     }
 
+-- the last bound is taken from its row
 pub AreRowsOf-pop : (bounds : List Bound) (rows : List (List Bound)) (b : Bound) → AreRowsOf (bounds ++ b ∷ []) rows → b.to.0 < length rows
     → AreRowsOf bounds (set rows b.to.0 (take (length (row_at rows b.to.0) - 1) (row_at rows b.to.0)))
 AreRowsOf-pop bounds rows b h l =
@@ -79,6 +84,7 @@ filter-none v (x ∷ xs) h =
     let l = h 0 x (omega arith) in
     ap (λ (t : Bool). cond t (x ∷ filter (ends_at v) xs) (filter (ends_at v) xs)) (ne_eqb x.to.0 v (λ e. omega arith)) ∙ filter-none v xs (λ k d lk. h (suc k) d (omega arith))
 
+-- an empty row more
 pub AreRowsOf-grown : (bounds : List Bound) (rows : List (List Bound)) → AreRowsOf bounds rows → All (λ b. b.to.0 < length rows) bounds
     → AreRowsOf bounds (rows ++ [] ∷ [])
 AreRowsOf-grown bounds rows h below =

@@ -1,5 +1,4 @@
-use Rattle.std.proofs.Common.{◌≡◌, ℕ, zero, suc, ◌+◌, ◌-◌, ◌<◌, ◌≤◌, List, [], ◌∷◌, ◌++◌, length, take, drop, map, set, get_or, All, Contains, ℤ, pos, refl, ap, ◌∙◌, sym, subst, arith, inl, inr, length-set, replicate}
-use Rattle.std.specs.List.{AllByRecursion}
+use Rattle.std.proofs.Common.{◌≡◌, ℕ, ◌+◌, ◌-◌, ◌<◌, ◌≤◌, List, [], ◌∷◌, ◌++◌, length, take, drop, set, get_or, All, Contains, ℤ, pos, refl, ap, ◌∙◌, sym, subst, arith, inl, inr, length-set, replicate}
 use Rattle.std.proofs.lemmas.Int.{ints}
 use Rattle.std.proofs.lemmas.List.{map-append, append-nil, drop_at, get_or-take, get_or-replicate, length_push, length-take-le, take-append-le, length-replicate}
 use Rattle.std.proofs.lemmas.List.Elements.{All-push, All-weaker, All-contains, All-from_recursion, recursion_from_All, Contains-push, Contains-push_cases}
@@ -10,17 +9,18 @@ use Rattle.stn_trail.specs.declared.moves.Move.{Move}
 use Rattle.stn_trail.specs.declared.part.Part.{Part}
 use Rattle.stn_trail.specs.declared.part.Part.TheVariants.{Grown, Added}
 use Rattle.stn_trail.specs.declared.part.Step.{Step}
-use Rattle.stn_trail.specs.Rows.{row_at, IsIn, AreRowsOf}
+use Rattle.stn_trail.specs.Rows.{row_at, AreRowsOf}
 use Rattle.stn_trail.specs.Covered.{AreCovered}
-use Rattle.stn_trail.specs.Moves.{restored, times_at, KeepsPast}
+use Rattle.stn_trail.specs.Moves.{restored, KeepsPast}
 use Rattle.stn_trail.specs.Held.{grown, added}
-use Rattle.stn_trail.specs.History.{parts_of, StandsAt, IsHistory, IsTrail}
+use Rattle.stn_trail.specs.History.{parts_of, IsTrail}
 use Rattle.stn_trail.specs.Widens.{Widens}
 use Rattle.stn_trail.proofs.MoveLemmas.{KeepsPast-same}
 use Rattle.stn_trail.proofs.PartLemmas.{added-append, grown-append}
 use Rattle.stn_trail.proofs.RowLemmas.{row_bounds, AreRowsOf-push, AreRowsOf-pop, AreRowsOf-grown}
 use Rattle.stn_trail.proofs.HistoryLemmas.{StandsAt-now, IsHistory-push, IsHistory-refused, IsHistory-back, IsHistory-begin, IsHistory-grown, times_at-end, length-restored}
 
+-- what a step more means for parts, bounds and points
 parts_push : (steps : List Step) (s : Step) (p : Part) → s.part ≡ p → parts_of (steps ++ s ∷ []) ≡ parts_of steps ++ p ∷ []
 parts_push steps s p e = map-append (λ (x : Step). x.part) steps (s ∷ []) ∙ ap (λ (q : Part). parts_of steps ++ q ∷ []) e
 
@@ -45,6 +45,7 @@ pub range_added : (first count : ℕ) (steps : List Step) (rows : List (List Bou
 range_added first count steps rows moves times s b h r e =
     subst (All (IsInRange count)) (sym (added_push steps s b e)) (All-push (IsInRange count) (added (parts_of steps)) b (range_now first count steps rows moves times h) r)
 
+-- the rows with the bound added
 pub rows_added : (first count : ℕ) (steps : List Step) (rows : List (List Bound)) (moves : List Move) (times : List ℤ) (s : Step) (b : Bound)
     → IsTrail first count steps rows moves times → IsInRange count b → s.part ≡ Added b
     → AreRowsOf (added (parts_of (steps ++ s ∷ []))) (set rows b.to.0 (row_at rows b.to.0 ++ b ∷ []))
@@ -69,6 +70,7 @@ last_added rows b row e =
     let n : length row ≡ length (row_at rows b.to.0) + 1 = ap (length {A = Bound}) e ∙ length_push (row_at rows b.to.0) b in
     ap (drop (length row - 1)) e ∙ drop_at (row_at rows b.to.0) (b ∷ []) (length row - 1) (omega arith)
 
+-- a trail with a bound more, whose times keep it
 pub IsTrail-added : (first count : ℕ) (steps : List Step) (rows : List (List Bound)) (moves : List Move) (times : List ℤ) (s : Step) (b : Bound) (moves' : List Move) (times' : List ℤ)
     → IsTrail first count steps rows moves times → IsInRange count b → s.part ≡ Added b → s.since ≡ length moves
     → KeepsPast (length moves) moves times moves' times' → length times' ≡ length times → Meets (added (parts_of (steps ++ s ∷ []))) (time_of times')
@@ -93,6 +95,7 @@ pub times_refused : (moves : List Move) (times : List ℤ) (moves' : List Move) 
     → restored (drop (length moves) moves') times' ≡ times
 times_refused moves times moves' times' past = past.same (length moves) (omega arith) ∙ times_at-end moves times
 
+-- a trail after a bound was refused
 pub IsTrail-refused : (first count : ℕ) (steps : List Step) (rows : List (List Bound)) (moves : List Move) (times : List ℤ) (s : Step) (b : Bound) (moves' : List Move) (times' : List ℤ) (rows' : List (List Bound))
     → IsTrail first count steps rows moves times → IsInRange count b → s.part ≡ Added b
     → KeepsPast (length moves) moves times moves' times' → AreRowsOf (added (parts_of (steps ++ s ∷ []))) rows' → length rows' ≡ length rows
@@ -111,6 +114,7 @@ IsTrail-refused first count steps rows moves times s b moves' times' rows' h r e
       history = IsHistory-refused first steps moves times moves' times' h.history past;
     }
 
+-- a trail with a point more
 pub IsTrail-grown : (first count : ℕ) (steps : List Step) (rows : List (List Bound)) (moves : List Move) (times : List ℤ) (s : Step)
     → IsTrail first count steps rows moves times → s.part ≡ Grown → s.since ≡ length moves → count < length rows → count < 131072
     → IsTrail first (count + 1) (steps ++ s ∷ []) rows moves times
@@ -161,6 +165,7 @@ IsTrail-longer_rows first count steps rows moves times h l =
       history = h.history;
     }
 
+-- a trail whose last point is taken back
 pub IsTrail-back_grown : (first count : ℕ) (steps : List Step) (rows : List (List Bound)) (moves : List Move) (times : List ℤ) (s : Step)
     → IsTrail first count (steps ++ s ∷ []) rows moves times → s.part ≡ Grown
     → IsTrail first (count - 1) steps rows (take s.since moves) (restored (drop s.since moves) times)
@@ -185,6 +190,7 @@ end_below first count steps rows moves times s b h e =
     let t = (All-contains (IsInRange count) (added (parts_of (steps ++ s ∷ []))) b (range_now first count (steps ++ s ∷ []) rows moves times h) (subst (λ (bs : List Bound). Contains bs b) (sym (added_push steps s b e)) (Contains-push (added (parts_of steps)) b))).to_below in
     omega arith
 
+-- a trail whose last bound is taken back
 pub IsTrail-back_added : (first count : ℕ) (steps : List Step) (rows : List (List Bound)) (moves : List Move) (times : List ℤ) (s : Step) (b : Bound)
     → IsTrail first count (steps ++ s ∷ []) rows moves times → s.part ≡ Added b
     → IsTrail first count steps (set rows b.to.0 (take (length (row_at rows b.to.0) - 1) (row_at rows b.to.0))) (take s.since moves) (restored (drop s.since moves) times)
@@ -222,6 +228,7 @@ MeetsList-now first count steps rows moves times h =
       };
     }
 
+-- a trail with no part
 pub IsTrail-begin : (points : ℕ) (rows : List (List Bound)) → 1 ≤ points → points ≤ 131072 → rows ≡ replicate points [] → IsTrail points points [] rows [] (replicate points (pos 0))
 IsTrail-begin points rows some few e =
     let n : length rows ≡ points = ap (length {A = List Bound}) e ∙ length-replicate points [] in
@@ -236,6 +243,7 @@ IsTrail-begin points rows some few e =
       history = IsHistory-begin points some;
     }
 
+-- room: as it was, with one time more, with one row more
 pub Widens-same : (count : ℕ) (moves : List Move) (rows : List (List Bound)) (times : List ℤ) → Widens count moves rows times rows times
 Widens-same count moves rows times = record { trail = λ first steps h. h; same = refl }
 

@@ -1,5 +1,5 @@
 -- Bounds that are kept while times are raised, or will be looked at.
-use Rattle.std.specs.Prelude.{ℕ, ◌<◌, ◌⊎◌, List, [], ℤ, All, Contains}
+use Rattle.std.specs.Prelude.{ℕ, ◌<◌, ◌⊎◌, List, ℤ, All, Contains}
 use Rattle.hs_base.specs.declared.net.Bound.{Bound}
 use Rattle.hs_base.specs.Schedule.{time_of, Holds}
 use Rattle.stn_trail.specs.declared.raised.Raised.{Raised}

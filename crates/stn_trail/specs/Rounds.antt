@@ -1,5 +1,5 @@
 -- Causes of times, and cycles along them.
-use Rattle.std.specs.Prelude.{◌≡◌, ◌≢◌, ℕ, List, slice_index_or, ℤ, pos, ◌<ℤ◌, All, AllPairs}
+use Rattle.std.specs.Prelude.{◌≢◌, ℕ, List, slice_index_or, pos, ◌<ℤ◌, All, AllPairs}
 use Rattle.hs_base.specs.declared.net.Bound.{Bound}
 use Rattle.hs_base.specs.Schedule.{bound}
 use Rattle.hs_base.specs.Cycles.{Leads, total}

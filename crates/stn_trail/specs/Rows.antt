@@ -1,5 +1,5 @@
 -- Bounds by the points at which they end.
-use Rattle.std.specs.Prelude.{◌≡◌, ℕ, ◌<◌, Bool, List, [], length, slice_index_or, Contains, All, filter, nat_eq}
+use Rattle.std.specs.Prelude.{◌≡◌, ℕ, ◌<◌, Bool, List, [], length, slice_index_or, Contains, filter, nat_eq}
 use Rattle.hs_base.specs.declared.net.Bound.{Bound}
 
 -- the bounds that end at v

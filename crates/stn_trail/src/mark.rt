@@ -1,6 +1,8 @@
+ghost use Rattle.std.specs.Prelude.{◌≡◌};
+
 use std::marker::Model;
 
-/// A place in a trail to come back to.
+/// A place in a trail to come back to: how many parts it had.
 #[derive(Clone, Copy, Debug)]
 pub struct Mark {
     parts: usize,
@@ -15,8 +17,6 @@ impl Model for Mark {
 
     ghost inverse = { λ parts. record { parts = parts } };
 }
-
-ghost use Rattle.std.specs.Prelude.{◌≡◌};
 
 impl Mark {
     pub(crate) fn after(parts: usize) -> Mark

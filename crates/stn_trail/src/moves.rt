@@ -1,3 +1,5 @@
+ghost use Rattle.std.specs.Prelude.{◌≡◌, ◌<◌, ◌^◌, ◌↔◌, IsTrue};
+
 /// The bound that gave a point its time: bound number `place` of the row of point `to`.
 #[derive(Clone, Copy, Debug)]
 pub(crate) struct Cause {
@@ -6,14 +8,20 @@ pub(crate) struct Cause {
 }
 
 impl Cause {
-    pub fn new(to: u32, place: usize) -> Cause {
+    /// A place past the numbers of a `u32` is no place.
+    pub fn new(to: u32, place: usize) -> Cause
+        ensures to { result.to ≡ to }
+        ensures place { place < 2 ^ 32 → result.place ≡ place }
+    {
         Cause {
             to,
             place: u32::try_from(place).unwrap_or(u32::MAX),
         }
     }
 
-    pub fn is_none(self) -> bool {
+    pub fn is_none(self) -> bool
+        ensures { IsTrue result ↔ (self.place ≡ NO_CAUSE.place) }
+    {
         self.place == NO_CAUSE.place
     }
 }

@@ -97,6 +97,7 @@ pub(crate) fn settle(
     ensures past { KeepsPast (vec_len times.old.moves) times.old.moves.items times.old.ticks.items times.new.moves.items times.new.ticks.items }
 {
     anchor(rows, bound, times)?;
+    // points that wait in turn come to rest within as many turns as there are points (Bellman 1958)
     let limit = rows.len().saturating_mul(steps.len()).saturating_add(1);
     match raise_last(rows, bound.to.0, limit, times, queue)? {
         Found::Kept => Ok(()),

@@ -51,6 +51,7 @@ impl Times {
     pub fn set(&mut self, point: u32, time: i64, cause: Cause) -> Result<(), Memory>
         requires { point < vec_len self.old.ticks }
         ensures now { OnOk result (self.new.ticks.items ≡ slice_set self.old.ticks.items point time) }
+        ensures cause { OnOk result (self.new.causes.items ≡ slice_set self.old.causes.items point cause) }
         ensures err { OnErr result (self.new.ticks.items ≡ self.old.ticks.items) }
         ensures past { KeepsPast (vec_len self.old.moves) self.old.moves.items self.old.ticks.items self.new.moves.items self.new.ticks.items }
     {

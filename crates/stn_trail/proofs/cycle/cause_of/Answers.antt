@@ -1,6 +1,5 @@
-use Rattle.std.proofs.Common.{arith, ◌∙◌, []}
+use Rattle.std.proofs.Common.{◌∙◌, []}
 use Rattle.std.proofs.lemmas.List.{get_or_read}
-use Rattle.stn_trail.specs.Rounds.{cause_at}
 use Rattle.stn_trail.proofs.RaisingLemmas.{no_bound, bound_is_in}
 use Rattle.stn_trail.proofs.cycle.cause_of.Goals as goal
 

@@ -1,4 +1,4 @@
-use Rattle.std.proofs.Common.{◌≡◌, arith, ◌∙◌}
+use Rattle.std.proofs.Common.{arith}
 use Rattle.std.proofs.lemmas.Int.{ints}
 use Rattle.stn_trail.specs.Rounds.{cause_at}
 use Rattle.stn_trail.proofs.RoundLemmas.{IsWay-more, IsRound-closed}

@@ -1,4 +1,4 @@
-use Rattle.std.proofs.Common.{◌≡◌, ◌∙◌, ap, subst, List, [], ℤ, Option, IfSome}
+use Rattle.std.proofs.Common.{◌∙◌, ap, subst, List, [], ℤ, Option, IfSome}
 use Rattle.hs_base.specs.declared.net.Bound.{Bound}
 use Rattle.hs_base.specs.Schedule.{time_of}
 use Rattle.stn_distance.proofs.CauseLemmas.{HasNoSchedule-from_cycle}

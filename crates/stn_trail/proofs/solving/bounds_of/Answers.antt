@@ -1,4 +1,4 @@
-use Rattle.std.proofs.Common.{◌≡◌, ◌∙◌, ap, sym, List, [], ◌∷◌, ◌++◌, take}
+use Rattle.std.proofs.Common.{◌∙◌, ap, sym, List, [], ◌∷◌, ◌++◌, take}
 use Rattle.std.proofs.lemmas.List.{append-nil}
 use Rattle.hs_base.specs.declared.net.Bound.{Bound}
 use Rattle.stn_trail.specs.declared.part.Part.{Part}

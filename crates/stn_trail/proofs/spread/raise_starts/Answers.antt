@@ -1,10 +1,8 @@
-use Rattle.std.proofs.Common.{◌≡◌, ◌<◌, arith, subst, sym, ap, ◌∙◌, List, ℕ, ℤ, pos, to_z, of_z, w64, get_or, ◌∷◌, [], ◌++◌, set, length, length-set, get_or-set_other}
+use Rattle.std.proofs.Common.{arith, sym, ap, ◌∙◌, List, ℤ, pos, get_or, length, length-set, get_or-set_other}
 use Rattle.hs_base.specs.Schedule.{time_of}
 use Rattle.std.proofs.lemmas.Int.{ints}
 use Rattle.std.proofs.lemmas.List.{get_or_read}
-use Rattle.stn_trail.specs.declared.times.Times.{Times}
-use Rattle.stn_trail.specs.declared.raised.Raised.{Raised}
-use Rattle.stn_trail.proofs.RaisingLemmas.{no_bound, KeepsPast-then, start_below, bound_is_in, IsRaising, IsRaising-kept, IsRaising-raised}
+use Rattle.stn_trail.proofs.RaisingLemmas.{no_bound, KeepsPast-then, start_below, bound_is_in, IsRaising-kept, IsRaising-raised}
 use Rattle.stn_trail.proofs.spread.raise_starts.Goals as goal
 use Rattle.stn_trail.proofs.spread.raise_starts.Goals.{then-due-index+else-start-eq0+else-start-point+else-start-goal+in_ok-set+in_ok-push_back, else-due-index}
 

@@ -1,11 +1,11 @@
-use Rattle.std.proofs.Common.{◌≡◌, [], ◌∷◌, arith, subst, sym, ap, ◌∙◌, List, ℤ, pos, ◌<◌, length, of_z, w64}
+use Rattle.std.proofs.Common.{[], arith, subst, ap, ◌∙◌, List, pos, ◌<◌, length, of_z, w64}
 use Rattle.std.proofs.lemmas.List.{get_or_read}
 use Rattle.std.proofs.lemmas.List.Elements.{All-head, All-tail}
 use Rattle.stn_trail.specs.declared.raised.Raised.{Raised}
 use Rattle.stn_trail.specs.Covered.{AreCovered, AreBelow}
 use Rattle.stn_trail.specs.Found.{Finds}
 use Rattle.stn_trail.proofs.CoveredLemmas.{AreCovered-taken, AreCovered-stale}
-use Rattle.stn_trail.proofs.RaisingLemmas.{KeepsPast-then, Spreads}
+use Rattle.stn_trail.proofs.RaisingLemmas.{KeepsPast-then}
 use Rattle.stn_trail.proofs.spread.spread.Goals as goal
 use Rattle.stn_trail.proofs.spread.spread.Goals.{then-index-raised+in_ok-raise_starts+in-Kept, else-index-raised}
 

@@ -1,4 +1,4 @@
-use Rattle.std.proofs.Common.{◌≡◌, ◌<◌, [], ◌∷◌, ◌++◌, length, arith, ap, ℤ, pos}
+use Rattle.std.proofs.Common.{[], ◌∷◌, ◌++◌, arith, pos}
 use Rattle.std.proofs.lemmas.List.{length_push}
 use Rattle.stn_trail.proofs.TrailLemmas.{Widens-same, Widens-times, Widens-row}
 use Rattle.stn_trail.proofs.trail.make_room.Goals as goal

@@ -1,4 +1,4 @@
-use Rattle.std.proofs.Common.{◌≡◌, ◌≤◌, length, take, drop, arith, ap, sym, ◌∙◌, ◌-◌, subst, List, ◌++◌, ◌∷◌, [], ◌+◌, refl, to_z, of_z, w64, pos, ℤ}
+use Rattle.std.proofs.Common.{◌≡◌, length, take, drop, arith, ap, sym, ◌∙◌, List, ◌++◌, ◌∷◌, [], ◌+◌, refl, to_z, of_z, w64}
 use Rattle.std.proofs.lemmas.Int.{ints}
 use Rattle.std.proofs.lemmas.List.{take-take, take_at, length_push}
 use Rattle.stn_trail.specs.Moves.{restored}

@@ -1,17 +1,16 @@
-use Rattle.std.proofs.Common.{refl, ◌≡◌, ℕ, ◌∙◌, ap, sym, subst, List, [], ◌∷◌, ◌++◌, take, drop, set, get_or, arith, length, ℤ, ◌-◌, vec_len}
+use Rattle.std.proofs.Common.{refl, ℕ, ◌∙◌, ap, sym, subst, List, [], ◌∷◌, take, arith, ◌-◌}
 use Rattle.hs_base.specs.declared.net.Bound.{Bound}
 use Rattle.hs_base.specs.Schedule.{time_of, Meets, HasNoSchedule}
-use Rattle.stn_distance.specs.Ranges.{IsInRange}
 use Rattle.hs_base.specs.Cycles.{IsNegativeCycle}
 use Rattle.stn_distance.specs.Broken.{IfCycle}
 use Rattle.stn_trail.specs.declared.part.Part.TheVariants.{Added}
 use Rattle.stn_trail.specs.declared.part.Step.{Step}
-use Rattle.stn_trail.specs.Rows.{row_at, AreRowsOf}
+use Rattle.stn_trail.specs.Rows.{AreRowsOf}
 use Rattle.stn_trail.specs.Covered.{AreCovered}
-use Rattle.stn_trail.specs.Held.{Held, points_of, bounds_of, added, IsKept}
+use Rattle.stn_trail.specs.Held.{points_of, added}
 use Rattle.stn_trail.specs.History.{parts_of}
 use Rattle.stn_trail.proofs.TrailLemmas.{MeetsList-now, points_push}
-use Rattle.stn_trail.proofs.AddingLemmas.{IsAdding, IsAdding-pushed, added_is, range_of, rows_of, covered_of, last_of, origin_of, steps_back, times_back, row_back, trail_added, trail_refused}
+use Rattle.stn_trail.proofs.AddingLemmas.{IsAdding-pushed, added_is, range_of, rows_of, covered_of, origin_of, steps_back, times_back, row_back, trail_added, trail_refused}
 use Rattle.stn_trail.proofs.trail.Trail.add.Goals as goal
 
 pub settle-settled-requires-clause-range : goal.settle-settled-requires-clause-range

@@ -1,8 +1,7 @@
-use Rattle.std.proofs.Common.{◌≡◌, ℕ, ◌+◌, ◌<◌, ◌∙◌, ap, subst, sym, List, [], ◌∷◌, ◌++◌, length, refl, arith}
+use Rattle.std.proofs.Common.{ℕ, ◌+◌, ◌<◌, ◌∙◌, ap, subst, sym, List, refl, arith}
 use Rattle.stn_trail.specs.declared.part.Part.TheVariants.{Grown}
-use Rattle.stn_trail.specs.declared.part.Step.{Step}
 use Rattle.stn_trail.specs.declared.moves.Move.{Move}
-use Rattle.stn_trail.specs.Held.{Held, points_of}
+use Rattle.stn_trail.specs.Held.{points_of}
 use Rattle.stn_trail.specs.History.{IsTrail}
 use Rattle.stn_trail.proofs.TrailLemmas.{IsTrail-grown, MeetsList-now, points_push}
 use Rattle.stn_trail.proofs.trail.Trail.grow.Goals as goal

@@ -1,4 +1,4 @@
-use Rattle.std.proofs.Common.{◌≡◌, ℕ, ◌∙◌, ap, subst, List, [], ◌∷◌, ◌++◌, take, set, ◌-◌, length, arith}
+use Rattle.std.proofs.Common.{◌∙◌, ap, subst, List, [], take, ◌-◌, length, arith}
 use Rattle.std.proofs.lemmas.List.{get_or_read}
 use Rattle.hs_base.specs.declared.net.Bound.{Bound}
 use Rattle.stn_trail.specs.declared.part.Step.{Step}

@@ -1,4 +1,4 @@
-use Rattle.std.proofs.Common.{◌≡◌, ◌≤◌, length}
+use Rattle.std.proofs.Common.{◌≤◌, length}
 use Rattle.stn_trail.specs.Held.{Leaves}
 use Rattle.stn_trail.proofs.trail.Trail.undo.Given as goal
 
