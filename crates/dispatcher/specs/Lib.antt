@@ -2,3 +2,4 @@ pub mod State
 pub mod Places
 pub mod Index
 pub mod Kept
+pub mod Edges

@@ -2,6 +2,7 @@
 //! go on, and what is due, decided by kept edges alone.
 #![tactic(auto)]
 
+mod course;
 mod dispatch;
 mod groups;
 mod places;
