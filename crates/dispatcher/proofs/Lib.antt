@@ -7,3 +7,4 @@ pub mod BeginLemmas
 pub mod FiringLemmas
 pub mod InsideLemmas
 pub mod TieLemmas
+pub mod MarkedLemmas

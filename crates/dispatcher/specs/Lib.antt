@@ -3,3 +3,4 @@ pub mod Places
 pub mod Index
 pub mod Kept
 pub mod Edges
+pub mod Marks
