@@ -5,6 +5,7 @@
 mod course;
 mod dispatch;
 mod groups;
+mod marks;
 mod places;
 mod times;
 mod waits;
