@@ -4,3 +4,7 @@ pub mod PlaceLemmas
 pub mod TimesLemmas
 pub mod ToldLemmas
 pub mod BeginLemmas
+pub mod FiringLemmas
+pub mod InsideLemmas
+pub mod TieLemmas
+pub mod MarkedLemmas

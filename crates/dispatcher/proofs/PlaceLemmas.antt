@@ -1,6 +1,6 @@
 -- Places as they are noted group by group.
-use Rattle.std.proofs.Common.{◌≡◌, ℕ, ◌+◌, ◌<◌, List, [], ◌∷◌, length, refl, sym, ap, ◌∙◌, subst, arith, pos, inl, inr, get_or, set, All}
-use Rattle.std.proofs.lemmas.Bool.{cases_eq}
+use Rattle.std.proofs.Common.{◌≡◌, ℕ, ◌+◌, ◌^◌, ◌<◌, ◌≤◌, List, [], ◌∷◌, length, refl, sym, ap, ◌∙◌, subst, arith, pos, inl, inr, get_or, set, All}
+use Rattle.std.proofs.lemmas.Bool.{cases_eq, cases_lt}
 use Rattle.std.proofs.lemmas.List.{length-set, get_or-set_same, get_or-set_other, get_or_default}
 use Rattle.std.proofs.lemmas.List.Elements.{Contains-get_or, All-from_get_or}
 use Rattle.std.specs.Prelude.{Contains}
@@ -16,7 +16,7 @@ use Rattle.net_laws.proofs.ListLemmas.{has_from, contains_from}
 use Rattle.net_laws.proofs.DispatchLemmas.{each_stands}
 use Rattle.net_laws.proofs.NetworkLemmas.{offset_within}
 use Rattle.dispatcher.specs.declared.places.Place.{Place}
-use Rattle.dispatcher.specs.Places.{ArePlaces, IsNearLeader, StandsAt, member, no_place, place_at, placed}
+use Rattle.dispatcher.specs.Places.{ArePlaces, IsNearLeader, IsSmall, StandsAt, member, no_place, place_at, placed}
 
 pub length-placed : (i : ℕ) (ms : List Member) (ps : List Place) → length (fold (placed i) ps ms) ≡ length ps
 length-placed i [] ps = refl
@@ -83,3 +83,13 @@ module _ (c : ℕ) (net : Net) (is : IsReducedOf c (spread net) net) where
         let there : get_or net.groups r.2.0 r.0 ≡ r.0 = r.2.2 in
         subst (λ z. StandsAt net z (place_at ps z)) r.4 (each r.2.0 r.0 r.1 r.2.1 (subst (λ z. Contains (stands z) r.1) (sym there) r.3));
   }
+
+  -- all points have numbers of 32 bits, so there are not more
+  pub all_small : ((j : ℕ) (g : Group) (m : Member) → j < length net.groups → Contains (stands (get_or net.groups j g)) m → IsSmall m) → c ≤ 2 ^ 32
+  all_small each = elim (cases_lt (2 ^ 32) c) [
+    | inr few ↦ few
+    | inl many ↦
+        let r = each_stands c net is (2 ^ 32) many in
+        let there : get_or net.groups r.2.0 r.0 ≡ r.0 = r.2.2 in
+        absurd (omega (arith, r.4, each r.2.0 r.0 r.1 r.2.1 (subst (λ z. Contains (stands z) r.1) (sym there) r.3)))
+  ]

@@ -1,6 +1,6 @@
--- The view of a Dispatch's fields, and what is kept of them.
-use Rattle.std.specs.Prelude.{◌≡◌, length}
-use Rattle.dispatcher.specs.declared.dispatch.Dispatch.TheInside.{Inside}
+-- The view of a Course's fields, and what is kept of them.
+use Rattle.std.specs.Prelude.{◌≡◌, ◌≤◌, ◌^◌, length}
+use Rattle.dispatcher.specs.declared.course.Course.TheInside.{Inside}
 use Rattle.dispatcher.specs.State.{State, IsLawful}
 use Rattle.dispatcher.specs.Places.{ArePlaces}
 use Rattle.dispatcher.specs.Index.{AreSetBy, AreKnown, AreWaits, numbers_of}
@@ -14,4 +14,4 @@ pub record IsKept (d : Inside) : Type 0 where
   pub places : ArePlaces (length d.times.items) d.net d.places.items
   pub known : AreKnown d.net d.times.items (numbers_of d.known.items)
   pub waits : AreWaits d.windows d.places.items d.times.items d.until
-  pub marks : length d.marks.items ≡ length d.times.items
+  pub small : length d.times.items ≤ 2 ^ 32

@@ -2,3 +2,5 @@ pub mod State
 pub mod Places
 pub mod Index
 pub mod Kept
+pub mod Edges
+pub mod Marks

@@ -1,5 +1,5 @@
 -- Where each point stands: the number of its group, and its offset.
-use Rattle.std.specs.Prelude.{◌≡◌, ℕ, ◌<◌, ℤ, pos, ◌≤ℤ◌, List, length, get_or, set, Contains}
+use Rattle.std.specs.Prelude.{◌≡◌, ℕ, ◌<◌, ◌^◌, ℤ, pos, ◌≤ℤ◌, List, length, get_or, set, Contains}
 use Rattle.hs_base.specs.declared.limits.TheConstants.{LAST}
 use Rattle.hs_base.specs.declared.net.Member.{Member}
 use Rattle.hs_base.specs.declared.net.Group.{Group}
@@ -36,3 +36,7 @@ pub record IsNearLeader (c : ℕ) (m : Member) : Type 0 where
 -- the places after one member of the group of that number
 abbrev pub placed : ℕ → List Place → Member → List Place
 placed i places m = set places m.point.0 (record { group = i; offset = m.offset })
+
+-- the member's number is one of 32 bits
+abbrev pub IsSmall : Member → Type 0
+IsSmall m = m.point.0 < 2 ^ 32

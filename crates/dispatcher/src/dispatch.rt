@@ -1,4 +1,4 @@
-ghost use Rattle.std.specs.Prelude.{◌≡◌, ◌↔◌, ◌<◌, ◌≤ℤ◌, ◌<ℤ◌, ℕ, pos, length, IsTrue, IsOk, IfOk, IfErr, IfSome, IfNone, IsNone};
+ghost use Rattle.std.specs.Prelude.{◌≡◌, ◌↔◌, ◌<◌, ◌≤ℤ◌, ◌<ℤ◌, ℕ, length, IsTrue, IsOk, IfOk, IfErr, IfNone, IfSome, IsNone, MatchOption};
 ghost use Rattle.hs_base.specs.declared.limits.TheConstants.{LAST};
 ghost use Rattle.hs_base.specs.Network.{spread};
 ghost use Rattle.hs_base.specs.Reduced.{IsReducedOf};
@@ -6,84 +6,45 @@ ghost use Rattle.hs_base.specs.Fits.{EachOnce, time_at};
 ghost use Rattle.hs_base.specs.Dispatch.{IsReached};
 ghost use Rattle.dispatcher.specs.State.{IsLawful, IsOpen, IsLeastTied, IsTiedTo, MayFire, MayGoOn, MustFire, IsInTime, IsLate, Bars, begun, fired, points, ticked, time_in};
 
-use crate::groups::set_groups;
-use crate::places::{Place, places};
-use crate::times::times_by_point;
-use crate::waits::{wait_group, waits_of};
+use crate::course::Course;
 use hs_base::{Bound, List, Memory, Net, PointId, Time};
-use local_propagate::{Minima, NEVER, Windows};
 use std::alloc::Global;
 use std::marker::Model;
 
-/// A reduced network in execution: windows of its groups, the points that are executed, and now.
+/// A reduced network in execution.
 ///
 /// Dispatching execution (Muscettola, Morris, Tsamardinos 1998), over the leaders of rigid groups.
 /// Times are ticks in 0 to `LAST`. Only `begin` takes memory.
 #[derive(Drop)]
 pub struct Dispatch {
-    net: Net,
-    windows: Windows,
-    observed: List<bool>,
-    times: Vec<Option<i64>>,
-    tick: i64,
-    places: Vec<Place>,
-    known: Vec<PointId>,
-    until: Minima,
+    course: Course,
     marks: Vec<Option<PointId>>,
 }
 
 impl Model for Dispatch {
-    ghost use Rattle.dispatcher.specs.State.{State};
+    ghost use Rattle.std.specs.Prelude.{◌≡◌, length};
+    ghost use Rattle.dispatcher.specs.State.{State, points};
 
     ghost Value = { State };
 
-    ghost use Rattle.dispatcher.specs.Kept.{state_of, IsKept};
+    ghost view = { λ d. d.course };
 
-    ghost view = { state_of };
-
-    ghost invariant = { IsKept };
+    ghost invariant = { λ d. length d.marks.items ≡ points d.course };
 }
 
 impl Dispatch {
     /// Begins at a time with the executed points, on a reduced network in which each point is marked
     /// as observed or not. It takes all memory that later calls need.
-    pub fn begin(
-        alloc: Global,
-        net: Net,
-        observed: List<bool>,
-        times: &[Time],
-        now: i64,
-    ) -> Result<Dispatch, Memory>
+    pub fn begin(alloc: Global, net: Net, observed: List<bool>, times: &[Time], now: i64) -> Result<Dispatch, Memory>
         requires reduced { IsReducedOf (length observed) (spread net) net }
         requires once { EachOnce times.now }
         requires reached { IsReached (length observed) net (time_at times.now) now }
         requires last { now ≤ℤ LAST }
         ensures { IfOk result (λ d. d ≡ begun net observed times.now now) }
     {
-        let count = observed.len();
-        let times = times_by_point(alloc, count, times)?;
-        let places = places(alloc, count, &net)?;
-        let mut windows = Windows::fresh(alloc, &net)?;
-        let known = set_groups(
-            alloc,
-            &net,
-            places.as_slice(),
-            times.as_slice(),
-            &mut windows,
-        )?;
-        let until = waits_of(alloc, &windows, places.as_slice(), times.as_slice())?;
-        let marks = vec![in alloc; None; count]?;
-        Ok(Dispatch {
-            net,
-            windows,
-            observed,
-            times,
-            tick: now,
-            places,
-            known,
-            until,
-            marks,
-        })
+        let marks = vec![in alloc; None; observed.len()]?;
+        let course = Course::begin(alloc, net, observed, times, now)?;
+        Ok(Dispatch { course, marks })
     }
 
     /// Now.
@@ -91,7 +52,7 @@ impl Dispatch {
         ensures value { result ≡ self.now.tick }
         ensures state { IsLawful self.now }
     {
-        self.tick
+        self.course.now()
     }
 
     /// The time of a point, where it is executed.
@@ -99,7 +60,26 @@ impl Dispatch {
         requires { p.0 < points self.now }
         ensures { result ≡ time_in self.now p.0 }
     {
-        self.times[p.0 as usize]
+        self.course.time(p)
+    }
+
+    /// The least open observed point, other than `p`, that has `p`'s time in every schedule.
+    pub fn tied(&self, p: PointId) -> Option<PointId>
+        requires { IsOpen self.now p.0 }
+        ensures { MatchOption result ((y : ℕ) → IsTiedTo self.now p.0 y → ⊥) (λ q. IsLeastTied self.now p.0 q.0) }
+    {
+        self.course.tied(p)
+    }
+
+    /// Whether a point may be executed now: some schedule that fits gives it now. Else a bound from
+    /// it, with its tight weight, that this would break.
+    pub fn may_fire(&mut self, p: PointId) -> Result<(), Bound>
+        requires { IsOpen self.old p.0 }
+        ensures may { IsOk result ↔ MayFire self.old p.0 }
+        ensures barred { IfErr result (Bars self.old p.0) }
+        ensures same { self.new ≡ self.old }
+    {
+        self.course.may_fire(p)
     }
 
     /// Notes that a point is executed now.
@@ -108,25 +88,14 @@ impl Dispatch {
         requires may { MayFire self.old p.0 }
         ensures { self.new ≡ fired self.old p.0 }
     {
-        let place = self.places[p.0 as usize];
-        self.times[p.0 as usize] = Some(self.tick);
-        if self.windows.time(place.group).is_none() {
-            self.windows.set(&self.net, place.group, self.tick);
-            self.known[place.group as usize] = p;
-            wait_group(
-                &self.net.groups[place.group as usize],
-                self.tick,
-                &mut self.until,
-            );
-        }
-        self.until.set(p.0 as usize, NEVER);
+        self.course.set(p);
     }
 
     /// The time up to which ticks may be taken, where nothing else happens.
     pub fn limit(&self) -> i64
         ensures { MayGoOn self.now ↔ (self.now.tick <ℤ result) }
     {
-        self.windows.least_high(&self.net).min(self.until.least())
+        self.course.limit()
     }
 
     /// Whether the time may go on: some schedule that fits gives every open point a later time.
@@ -134,7 +103,7 @@ impl Dispatch {
         ensures may { IsTrue result ↔ MayGoOn self.old }
         ensures same { self.new ≡ self.old }
     {
-        self.tick < self.limit()
+        self.course.now() < self.course.limit()
     }
 
     /// Takes a tick.
@@ -143,6 +112,6 @@ impl Dispatch {
         requires may { MayGoOn self.old }
         ensures { self.new ≡ ticked self.old }
     {
-        self.tick += 1;
+        self.course.advance();
     }
 }

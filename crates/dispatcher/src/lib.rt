@@ -2,8 +2,10 @@
 //! go on, and what is due, decided by kept edges alone.
 #![tactic(auto)]
 
+mod course;
 mod dispatch;
 mod groups;
+mod marks;
 mod places;
 mod times;
 mod waits;

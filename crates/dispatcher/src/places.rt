@@ -1,8 +1,8 @@
-ghost use Rattle.std.specs.Prelude.{◌≡◌, ◌<◌, ℕ, All, IfOk, length};
+ghost use Rattle.std.specs.Prelude.{◌≡◌, ◌≤◌, ◌^◌, ℕ, All, IfOk, OnOk, length};
 ghost use Rattle.std.specs.List.{fold};
 ghost use Rattle.hs_base.specs.Network.{spread};
 ghost use Rattle.hs_base.specs.Reduced.{IsReducedOf};
-ghost use Rattle.dispatcher.specs.Places.{ArePlaces, IsNearLeader, placed};
+ghost use Rattle.dispatcher.specs.Places.{ArePlaces, IsNearLeader, IsSmall, placed};
 
 use hs_base::{Member, Memory, Net};
 use std::alloc::Global;
@@ -17,12 +17,14 @@ pub struct Place {
 /// Notes where members of a group stand.
 fn place_members(number: u32, members: &[Member], places: &mut [Place])
     requires { All (IsNearLeader (length places.old)) members.now }
-    ensures { places.new ≡ fold (placed number) places.old members.now }
+    ensures places { places.new ≡ fold (placed number) places.old members.now }
+    ensures small { All IsSmall members.now }
 {
-    for member in members {
-        places[member.point.0 as usize] = Place {
+    for k in 0..members.len() {
+        let point = members[k].point.0 as usize;
+        places[point] = Place {
             group: number,
-            offset: member.offset,
+            offset: members[k].offset,
         };
     }
 }
@@ -30,7 +32,8 @@ fn place_members(number: u32, members: &[Member], places: &mut [Place])
 /// Notes where all points stand.
 fn place_all(net: &Net, places: &mut [Place])
     requires { IsReducedOf (length places.old) (spread net.now) net.now }
-    ensures { ArePlaces (length places.old) net.now places.new }
+    ensures places { ArePlaces (length places.old) net.now places.new }
+    ensures small { length places.old ≤ 2 ^ 32 }
 {
     let groups = net.groups.as_slice();
     for i in 0..groups.len() {
@@ -47,7 +50,8 @@ fn place_all(net: &Net, places: &mut [Place])
 /// The place of each of `count` points.
 pub fn places(alloc: Global, count: usize, net: &Net) -> Result<Vec<Place>, Memory>
     requires { IsReducedOf count (spread net.now) net.now }
-    ensures { IfOk result (λ p. ArePlaces count net.now p.items) }
+    ensures places { IfOk result (λ p. ArePlaces count net.now p.items) }
+    ensures small { OnOk result (count ≤ 2 ^ 32) }
 {
     let mut places = vec![in alloc; Place {
         group: 0,

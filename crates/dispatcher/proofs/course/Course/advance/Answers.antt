@@ -4,7 +4,7 @@ use Rattle.std.proofs.lemmas.Int.{ints, to_z-of_z}
 use Rattle.dispatcher.specs.State.{State, IsOpen, MayGoOn}
 use Rattle.dispatcher.specs.Kept.{state_of}
 use Rattle.dispatcher.proofs.KeptLemmas.{ticked_lawful, tick_within}
-use Rattle.dispatcher.proofs.dispatch.Dispatch.advance.Goals as goal
+use Rattle.dispatcher.proofs.course.Course.advance.Goals as goal
 
 pub invariant_of-self : goal.invariant_of-self
 invariant_of-self c =
@@ -23,5 +23,5 @@ invariant_of-self c =
       places = k.places;
       known = k.known;
       waits = k.waits;
-      marks = k.marks;
+      small = k.small;
     }

@@ -8,7 +8,7 @@ use Rattle.hs_base.specs.declared.net.Group.{Group}
 use Rattle.hs_base.specs.Dispatch.{stands}
 use Rattle.local_propagate.specs.Windows.{time_of}
 use Rattle.local_propagate.specs.declared.windows.TheConstants.{NEVER}
-use Rattle.dispatcher.specs.declared.dispatch.Dispatch.TheInside.{Inside}
+use Rattle.dispatcher.specs.declared.course.Course.TheInside.{Inside}
 use Rattle.dispatcher.specs.declared.places.Place.{Place}
 use Rattle.dispatcher.specs.State.{State, IsOpen, MayFire}
 use Rattle.dispatcher.specs.Places.{ArePlaces, place_at, no_place, IsNearLeader}
@@ -16,8 +16,8 @@ use Rattle.dispatcher.specs.Index.{numbers_of, waited}
 use Rattle.dispatcher.specs.Kept.{state_of, IsKept}
 use Rattle.dispatcher.proofs.KeptLemmas.{none_from, some_from}
 use Rattle.dispatcher.proofs.FireLemmas.{fired_lawful, kept_set_by, kept_known, kept_waits, new_times, new_known, near_members, new_waits, length-waited}
-use Rattle.dispatcher.proofs.dispatch.Dispatch.set.Goals.{then-is_none, else-is_none}
-use Rattle.dispatcher.proofs.dispatch.Dispatch.set.Goals as goal
+use Rattle.dispatcher.proofs.course.Course.set.Goals.{then-is_none, else-is_none}
+use Rattle.dispatcher.proofs.course.Course.set.Goals as goal
 
 -- the tick of what is kept
 tick_fits : (d : Inside) → IsKept d → FitsSigned w64 d.tick
@@ -91,23 +91,23 @@ invariant_of-self c =
           let waits = new_waits s k.state d.windows d.places.items (numbers_of d.known.items) d.until k.set k.places k.known k.waits x is_open may none w.set.new.self w.index.result.now times in
           let until : w.wait_group.new.until ≡ fold (waited d.tick) d.until (stands (get_or d.net.groups (place_at d.places.items x).group w.index.result.now)) = w.wait_group.ensures ∙ ap (λ (z : ℤ). fold (waited z) d.until (stands w.index.result.now)) tk ∙ ap (λ (g : Group). fold (waited d.tick) d.until (stands g)) read in
           let known : numbers_of (set d.known.items c.index-place.result.now.group c.args.p) ≡ set (numbers_of d.known.items) (place_at d.places.items x).group x = map-set (λ (q : PointId). q.0) d.known.items c.index-place.result.now.group c.args.p ∙ ap (λ z. set (numbers_of d.known.items) z x) group in
-          rw c.set-2.ensures (subst (λ (z : Inside). IsKept (record { net = z.net; windows = z.windows; observed = z.observed; times = z.times; tick = z.tick; places = z.places; known = z.known; until = set z.until x NEVER; marks = z.marks })) (sym w.self-inside-is) (record {
+          rw c.set-2.ensures (subst (λ (z : Inside). IsKept (record { net = z.net; windows = z.windows; observed = z.observed; times = z.times; tick = z.tick; places = z.places; known = z.known; until = set z.until x NEVER })) (sym w.self-inside-is) (record {
             state = rw tk lawful;
             set = record { are = w.set.ensures.windows; by = rw tk (new_times s k.state d.windows d.places.items (numbers_of d.known.items) d.until k.set k.places k.known k.waits x is_open may none w.set.new.self.times.items times) };
             places = subst (λ n. ArePlaces n d.net d.places.items) (sym long) k.places;
             known = rw (tk, known) (new_known s k.state d.windows d.places.items (numbers_of d.known.items) d.until k.set k.places k.known k.waits x is_open may none);
             waits = rw (tk, until) waits;
-            marks = k.marks ∙ sym long;
+            small = omega (arith, k.small, long);
           }))
       | else-is_none w ↦
           let t = some_from c.time.result w.if-is_none.ensures in
           let is_set : time_of d.windows (place_at d.places.items x).group ≡ Some t.0 = ap (λ (p : Place). time_of d.windows p.group) (sym pl) ∙ sym c.time.ensures ∙ t.1 in
-          rw c.set-2.ensures (subst (λ (z : Inside). IsKept (record { net = z.net; windows = z.windows; observed = z.observed; times = z.times; tick = z.tick; places = z.places; known = z.known; until = set z.until x NEVER; marks = z.marks })) (sym w.self-inside-is) (record {
+          rw c.set-2.ensures (subst (λ (z : Inside). IsKept (record { net = z.net; windows = z.windows; observed = z.observed; times = z.times; tick = z.tick; places = z.places; known = z.known; until = set z.until x NEVER })) (sym w.self-inside-is) (record {
             state = rw tk lawful;
             set = rw tk (kept_set_by s k.state d.windows d.places.items (numbers_of d.known.items) d.until k.set k.places k.known k.waits x is_open may t.0 is_set);
             places = subst (λ n. ArePlaces n d.net d.places.items) (sym long) k.places;
             known = rw tk (kept_known s k.state d.windows d.places.items (numbers_of d.known.items) d.until k.set k.places k.known k.waits x is_open may t.0 is_set);
             waits = rw tk (kept_waits s k.state d.windows d.places.items (numbers_of d.known.items) d.until k.set k.places k.known k.waits x is_open may t.0 is_set);
-            marks = k.marks ∙ sym long;
+            small = omega (arith, k.small, long);
           }))
     ]

@@ -4,7 +4,7 @@ use Rattle.std.proofs.lemmas.Int.{ints, clamps, to_z-of_z}
 use Rattle.dispatcher.specs.State.{State, MayGoOn}
 use Rattle.dispatcher.specs.Kept.{state_of}
 use Rattle.dispatcher.proofs.KeptLemmas.{Leasts, later_goes_on, goes_on_later}
-use Rattle.dispatcher.proofs.dispatch.Dispatch.limit.Goals as goal
+use Rattle.dispatcher.proofs.course.Course.limit.Goals as goal
 
 pub least-requires : goal.least-requires
 least-requires c = let r = c.self.invariant.state.reached in omega (arith, r.within 0 (pos 0) r.origin, c.self.invariant.waits.points)
