@@ -169,14 +169,20 @@ ChoiceText v = do
 abbrev pub FurtherChoices : ℕ → Language (List AstChoice)
 FurtherChoices v = cond (nat_eq v 1) (Yields []) (Many (After "or" (ChoiceText v)))
 
--- need := "need" kind choice ( "or" choice )*
+-- choices := choice ( "or" choice )*
+abbrev pub ChoicesText : ℕ → Language (List AstChoice)
+ChoicesText v = do
+  first ← ChoiceText v
+  others ← FurtherChoices v
+  Yields (first ∷ others)
+
+-- need := "need" kind choices
 abbrev pub NeedText : ℕ → Language AstNeed
 NeedText v = do
   _ ← Keyword "need"
   of ← KindText v
-  first ← ChoiceText v
-  others ← FurtherChoices v
-  Yields (record { of = of; either = first ∷ others })
+  either ← ChoicesText v
+  Yields (record { of = of; either = either })
 
 -- goal := "goal" kind [ "start" range ] [ "stop" range ]; a missing range is `[0,inf]`
 abbrev pub GoalText : ℕ → Language AstGoal

@@ -1,5 +1,5 @@
 -- The names that texts may give.
-use Rattle.std.specs.Prelude.{◌≡◌, ℕ, ◌≤◌, Bool, true, false, ◌&&◌, ◌||◌, not, nat_eq, nat_le, List, [], ◌∷◌, length, codes}
+use Rattle.std.specs.Prelude.{◌≡◌, ℕ, ◌≤◌, Bool, true, false, not, ◌&&◌, ◌||◌, nat_eq, nat_le, List, [], ◌∷◌, length, codes}
 use Rattle.std.specs.List.{list_any, list_all}
 use Rattle.std.specs.Cmp.Lexicographic.{pointwise}
 use Rattle.hs_base.specs.Types.{NAME_BYTES}
@@ -34,5 +34,5 @@ pub record IsName (name : List ℕ) : Type 0 where
   pub free : is_reserved name ≡ false
 
 -- the same as a test
-abbrev pub is_name : List ℕ → Bool
+unfoldable pub is_name : List ℕ → Bool
 is_name name = begins_small name && list_all is_name_byte name && nat_le (length name) NAME_BYTES && not (is_reserved name)

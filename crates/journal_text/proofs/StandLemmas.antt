@@ -13,7 +13,7 @@ use Rattle.hs_base.specs.declared.history.Deed.TheVariants.{Tick, Fire, Report, 
 use Rattle.hs_base.specs.declared.history.Entry.{Entry}
 use Rattle.hs_base.specs.Points.{Point, points_of, tokens_of, hor, count}
 use Rattle.hs_base.specs.State.{is_tick, hands_over, ticks_of, now_of, plan_of}
-use Rattle.point_laws.proofs.PointLemmas.{horizon_number, count_is, count-push}
+use Rattle.base_laws.proofs.PointLemmas.{horizon_number, count_is, count-push}
 use Rattle.journal_text.specs.Stands.{newest_horizon, StandsAt}
 
 pub now_of-push : (h : List Entry) (e : Entry) → now_of (h ++ e ∷ []) ≡ now_of h + ticks_of e

@@ -15,3 +15,4 @@ pub mod AnswerLemmas
 pub mod MoveLemmas
 pub mod MarkLemmas
 pub mod WindowLemmas
+pub mod NetworkLemmas

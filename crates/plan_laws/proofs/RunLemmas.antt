@@ -18,7 +18,7 @@ use Rattle.hs_base.specs.Fits.{Times, Fits, MayBeNow, MayTick, put, EachOnce, ti
 use Rattle.hs_base.specs.State.{now_of, times_of, plan_of, hands_over, executes, is_tick, ticks_of, executed, count_at, bounds_at, tick_at, FitsState}
 use Rattle.hs_base.specs.Machine.{Event, tick, fire, report, handover, Reply, done, observed, not_observed, over, no_net, no_point, already, FireReply, HandoverReply, PointReply, EventReply, MayFire, MayGoOn, Replies, IsLeftBy, base_of}
 use Rattle.hs_base.specs.Run.{MayAdd, Run}
-use Rattle.point_laws.proofs.ListLemmas.{snoc_induction}
+use Rattle.base_laws.proofs.ListLemmas.{snoc_induction}
 use Rattle.plan_laws.proofs.StateLemmas.{times_executed, now_of-push, plan_kept, plan_handed, times_kept, executed-put, EachOnce-push}
 
 -- where the test's first case is ruled out, the second holds

@@ -5,7 +5,7 @@ use Rattle.std.specs.Prelude.{ℤ, ◌-ℤ◌, map}
 use Rattle.std.specs.List.{AllByRecursion}
 use Rattle.hs_base.specs.declared.net.Bound.{Bound}
 use Rattle.hs_base.specs.Schedule.{Schedule, Meets, MeetsList, Holds, Implied, Tight, time_of, IsBelow, numbers_from}
-use Rattle.point_laws.proofs.ListLemmas.{each_split}
+use Rattle.base_laws.proofs.ListLemmas.{each_split}
 
 -- a schedule of two lists of bounds is one of the first, and one of the second
 pub left : (a b : List Bound) {s : Schedule} → Meets (a ++ b) s → Meets a s

@@ -4,11 +4,10 @@ ghost use Rattle.hs_base.specs.declared.history.Phase.TheVariants.{Waiting, Runn
 ghost use Rattle.hs_base.specs.Schedule.{MeetsList, numbers_from};
 ghost use Rattle.hs_base.specs.Points.{count, is_observed, start, stop, hor};
 ghost use Rattle.hs_base.specs.Bounds.{bounds_of};
-ghost use Rattle.hs_base.specs.Missions.{IsMission};
 ghost use Rattle.hs_base.specs.Checked.{free_points};
 ghost use Rattle.hs_base.specs.State.{now_of, executed, plan_of, phase_of};
 ghost use Rattle.hs_base.specs.Views.{snapshot_of, line_of};
-ghost use Rattle.plan_laws.specs.Samples.{smallest, smallest_plan, camera, camera_plan, camera_times, camera_history, token};
+ghost use Rattle.base_laws.specs.Samples.{smallest, smallest_plan, camera, camera_plan, camera_times, camera_history, token};
 
 /// The smallest plan has a schedule.
 pub fn the_smallest_plan_has_a_schedule()
@@ -35,14 +34,4 @@ pub fn the_camera_run_has_its_state()
     ensures times { (n : Net) → map (executed (camera_history n)) (numbers_from 0 8) ≡ Some (pos 0) ∷ None ∷ None ∷ None ∷ None ∷ Some (pos 1) ∷ None ∷ None ∷ [] }
     ensures snapshot { (n : Net) → snapshot_of (camera_history n) ≡ record { plan = camera_plan; since = pos 2; fixed = record { point = record { 0 = 5 }; at = pos 1 } ∷ []; front = 4 } }
     ensures line { (n : Net) → line_of camera (camera_history n) 1 ≡ record { place = 1; value = 1; end = 6; start = pos 1; time = pos 2; mark = 1; plans = 1; until = pos 100 } }
-{}
-
-/// The smallest mission is a mission.
-pub fn the_smallest_mission_is_one()
-    ensures { IsMission smallest }
-{}
-
-/// The camera mission is a mission.
-pub fn the_camera_mission_is_one()
-    ensures { IsMission camera }
 {}

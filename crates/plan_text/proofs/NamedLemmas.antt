@@ -15,8 +15,8 @@ use Rattle.hs_base.specs.Walks.{join_after}
 use Rattle.plan_text.specs.Named.{named, is_horizon, ends, horizons_in, ends_in, Counts, CountsTokens, with_end, with_horizon, with_extension}
 use Rattle.plan_text.specs.declared.names.PointName.{PointName}
 use Rattle.plan_text.specs.declared.names.PointName.TheVariants.{Horizon, End}
-use Rattle.point_laws.proofs.ListLemmas.{front_induction, slice_get-append_left, slice_get-middle}
-use Rattle.point_laws.proofs.PointLemmas.{end_points, tokens-push, points-push, count-push}
+use Rattle.base_laws.proofs.ListLemmas.{front_induction, slice_get-append_left, slice_get-middle}
+use Rattle.base_laws.proofs.PointLemmas.{end_points, tokens-push, points-push, count-push}
 use Rattle.plan_text.proofs.WalkLemmas.{length-join_after-take, take-next}
 
 -- 1 for a test that is passed

@@ -2,7 +2,7 @@
 use Rattle.std.proofs.Common.{◌≡◌, ◌≤◌, ◌<◌, ◌+◌, ℕ, get_or, subst, ap, sym, ◌∙◌, zero, suc, length, take, arith, List, [], ◌∷◌, ◌++◌, refl, append_assoc}
 use Rattle.std.proofs.lemmas.List.{append-nil, length-append, take_more}
 use Rattle.hs_base.specs.Walks.{join_after}
-use Rattle.point_laws.proofs.ListLemmas.{join_after-push}
+use Rattle.base_laws.proofs.ListLemmas.{join_after-push}
 
 -- a front gives no more
 pub length-join_after-take : {X Y : Type 0} (f : List X → X → List Y) (before xs : List X) (i : ℕ) → length (join_after f before (take i xs)) ≤ length (join_after f before xs)

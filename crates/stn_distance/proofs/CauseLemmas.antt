@@ -1,5 +1,5 @@
 -- Lowering a point keeps the causes explained; causes that lead back to their point are a negative cycle.
-use Rattle.std.proofs.Common.{replicate, All, Contains, reverse, zero, suc, ◌-◌, ◌*◌, neg_ℤ, ◌≡◌, ◌≢◌, ℕ, ◌+◌, ◌<◌, ◌≤◌, Bool, true, false, cond, eqb, List, [], ◌∷◌, ◌++◌, length, get_or, set, drop, ℤ, pos, negsuc, ◌+ℤ◌, ◌-ℤ◌, ◌≤ℤ◌, ◌<ℤ◌, refl, sym, ap, ◌∙◌, subst, arith, inl, inr, get_or-set_same, get_or-set_other, length-set}
+use Rattle.std.proofs.Common.{replicate, All, Contains, reverse, zero, suc, ◌-◌, ◌*◌, neg_ℤ, ◌≡◌, ℕ, ◌+◌, ◌<◌, ◌≤◌, Bool, true, false, cond, eqb, List, [], ◌∷◌, ◌++◌, length, get_or, set, drop, ℤ, pos, negsuc, ◌+ℤ◌, ◌-ℤ◌, ◌≤ℤ◌, ◌<ℤ◌, refl, sym, ap, ◌∙◌, subst, arith, inl, inr, get_or-set_same, get_or-set_other, length-set}
 use Rattle.std.specs.List.{AllByRecursion}
 use Rattle.std.proofs.lemmas.Int.{ints}
 use Rattle.std.proofs.lemmas.Grind.{reverse_onto}
@@ -9,9 +9,8 @@ use Rattle.std.proofs.lemmas.List.Sorted.{All-permutation, IsPermutation-reverse
 use lib.Signed.{clash_ℤ}
 use Rattle.std.proofs.lemmas.List.Sums.{sum_by-set}
 use Rattle.std.proofs.lemmas.Bool.{cases_eq, cases_lt, eq-eqb, ne_eqb}
-use Rattle.hs_base.specs.declared.limits.TheConstants.{LAST}
 use Rattle.hs_base.specs.declared.net.Bound.{Bound}
-use Rattle.hs_base.specs.Schedule.{Schedule, time_of, Holds, Meets, MeetsList, HasNoSchedule}
+use Rattle.hs_base.specs.Schedule.{Schedule, time_of, Holds, MeetsList, HasNoSchedule}
 use Rattle.hs_base.specs.Cycles.{Leads, total, IsNegativeCycle}
 use Rattle.stn_distance.specs.Ranges.{IsInRange, IsStart, IsNear}
 use Rattle.stn_distance.specs.Causes.{LeadsBack, AreCauses, IsRound, RootedAt, no_bound, above, depth, slack, IsAboveFloor, bound_at, IsCause, Explained, place}

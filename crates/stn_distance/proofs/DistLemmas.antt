@@ -1,17 +1,17 @@
 -- A table of distances, from rows that are exact.
-use Rattle.std.proofs.Common.{Vec, Global, ◌≡◌, ℕ, ◌<◌, ◌≤◌, List, [], length, get_or, map, All, ℤ, pos, negsuc, neg_ℤ, ◌+ℤ◌, ◌-ℤ◌, ◌≤ℤ◌, refl, sym, ap, ◌∙◌, subst, arith}
+use Rattle.std.proofs.Common.{Vec, Global, neg_ℤ, ◌≡◌, ℕ, ◌<◌, ◌≤◌, List, [], length, get_or, map, All, ℤ, pos, ◌+ℤ◌, ◌-ℤ◌, ◌≤ℤ◌, refl, sym, ap, ◌∙◌, subst, arith}
 use Rattle.std.proofs.lemmas.Int.{ints, by_lt_z}
 use Rattle.std.proofs.lemmas.List.{get_or_read, get_or-map, length-map}
 use Rattle.std.proofs.lemmas.List.FromFn.{get_or-map-range_with_len}
 use Rattle.std.proofs.lemmas.List.Elements.{All-weaker, recursion_from_All, Contains-get_or}
 use Rattle.hs_base.specs.declared.net.Bound.{Bound}
-use Rattle.hs_base.specs.Schedule.{Schedule, time_of, IsBelow, Holds, Meets, Implied, Tight, numbers_from}
+use Rattle.hs_base.specs.Schedule.{time_of, IsBelow, Holds, Meets, Implied, Tight, numbers_from}
 use Rattle.hs_base.specs.Reduced.{Table, IsTableOf}
-use Rattle.stn_distance.specs.Ranges.{IsInRange, StaysInTime}
+use Rattle.stn_distance.specs.Ranges.{IsInRange}
 use Rattle.stn_distance.proofs.RowLemmas.{Implied-step}
 use Rattle.stn_distance.specs.Rows.{items_of}
 use Rattle.stn_distance.specs.Folding.{number_at}
-use Rattle.stn_distance.specs.Distances.{Distances, weight, rows_of_table, folded_weight, IsExact}
+use Rattle.stn_distance.specs.Distances.{weight, rows_of_table, folded_weight, IsExact}
 
 -- the rows of a table give its weights
 pub row-read : (n : ℕ) (d : Table) (p q : ℕ) → p < n → q < n → time_of (get_or (rows_of_table n d) p []) q ≡ d p q
@@ -24,8 +24,8 @@ Tight-self : (bounds : List Bound) (p : ℕ) (w : ℤ) → Tight bounds p p w �
 Tight-self bounds p w h =
     let low : w ≤ℤ pos 0 = h.least (pos 0) (record { holds = λ t m. omega (arith, ints) }) in
     by_lt_z w (pos 0) (λ less.
-        (let all : Implied bounds p p (w -ℤ pos 1) = record { holds = λ t m. let i = h.implied.holds t m in absurd (omega (arith, ints)) } in
-        let e = h.least (w -ℤ pos 1) all in absurd (omega (arith, ints))))
+    (let all : Implied bounds p p (w -ℤ pos 1) = record { holds = λ t m. let i = h.implied.holds t m in absurd (omega (arith, ints)) } in
+    let e = h.least (w -ℤ pos 1) all in absurd (omega (arith, ints))))
     (λ high. omega (arith, ints))
 
 -- the distances from point 0 are a schedule
@@ -88,3 +88,19 @@ apart_is n bounds places offsets rows p q place place2 row apart h lp lq e r e2 
     ap (λ (row : List ℤ). time_of row (number_at places q)) (row_is n bounds places offsets rows p place row h lp e r)
     ∙ ap (time_of row.items) (sym (get_or_read places q place2 (omega arith) e2 0))
     ∙ sym (get_or_read row.items place2 apart (apart_in n bounds places offsets rows p q place place2 row h lp lq e r e2) a (pos 0))
+
+-- a distance is within LAST of 0
+pub Tight-low : (n : ℕ) (bounds : List Bound) (places : List ℕ) (offsets : List ℤ) (rows : List (List ℤ)) (p q : ℕ) → IsExact n bounds places offsets rows → p < n → q < n
+    → neg_ℤ (pos 1000000000) ≤ℤ folded_weight places offsets rows p q
+Tight-low n bounds places offsets rows p q h lp lq =
+    let d = folded_weight places offsets rows in
+    let m = Meets-weights n bounds d h.some h.range h.tight in let o = m.origin in
+    let i = (h.tight p q lp lq).implied.holds (d 0) m in
+    let a = (h.stays.after_origin q lq).holds (d 0) m in let b = (h.stays.before_last p lp).holds (d 0) m in omega (arith, ints)
+
+pub Tight-high : (n : ℕ) (bounds : List Bound) (places : List ℕ) (offsets : List ℤ) (rows : List (List ℤ)) (p q : ℕ) → IsExact n bounds places offsets rows → p < n → q < n
+    → folded_weight places offsets rows p q ≤ℤ pos 1000000000
+Tight-high n bounds places offsets rows p q h lp lq =
+    (h.tight p q lp lq).least (pos 1000000000) (record {
+      holds = λ t m. (let a = (h.stays.after_origin p lp).holds t m in let b = (h.stays.before_last q lq).holds t m in omega (arith, ints));
+    })

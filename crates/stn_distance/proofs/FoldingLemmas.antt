@@ -1,15 +1,13 @@
 -- Folded bounds have the schedules of the bounds.
-use Rattle.std.proofs.Common.{◌≡◌, ◌⊎◌, ℕ, ◌+◌, ◌<◌, ◌≤◌, Bool, true, false, cond, List, [], ◌∷◌, ◌++◌, length, get_or, take, map, All, Contains, ℤ, pos, neg_ℤ, ◌+ℤ◌, ◌-ℤ◌, ◌≤ℤ◌, refl, sym, ap, ◌∙◌, subst, arith, inl, inr}
-use Rattle.std.proofs.lemmas.Int.{ints}
+use Rattle.std.proofs.Common.{◌≡◌, ℕ, ◌+◌, ◌<◌, cond, List, [], ◌∷◌, ◌++◌, length, take, map, Contains, ℤ, pos, refl, sym, ap, ◌∙◌, subst, arith, inl, inr}
 use Rattle.std.proofs.lemmas.List.{take_more, map_push, get_or_push, get_or_append_left, length_push}
 use Rattle.std.proofs.lemmas.List.Elements.{filter-append}
 use Rattle.std.proofs.lemmas.Bool.{cases_eq}
-use Rattle.hs_base.specs.declared.ids.PointId.{PointId}
 use Rattle.hs_base.specs.declared.net.Bound.{Bound}
 use Rattle.hs_base.specs.declared.plan.Time.{Time}
-use Rattle.hs_base.specs.Schedule.{Schedule, time_of, bound}
+use Rattle.hs_base.specs.Schedule.{time_of}
 use Rattle.stn_distance.specs.Causes.{bound_at, no_bound}
-use Rattle.stn_distance.specs.Folding.{number_at, IsFolding, IsRowPoint, IsFixedPoint, is_apart, folded_bound, folded_bounds, spread_times}
+use Rattle.stn_distance.specs.Folding.{number_at, IsFolding, is_apart, folded_bound, folded_bounds}
 
 -- ---- One more point
 

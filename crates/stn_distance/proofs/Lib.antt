@@ -1,5 +1,7 @@
 pub mod CauseLemmas
 pub mod DistLemmas
+pub mod FoldedLemmas
 pub mod FoldingLemmas
+pub mod RangeLemmas
 pub mod RowLemmas
 pub mod TraceLemmas

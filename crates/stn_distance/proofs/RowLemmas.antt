@@ -1,17 +1,15 @@
 -- Rows of distances: any relaxation keeps what holds of every schedule, and a row that keeps all bounds is exact.
 use Rattle.std.proofs.Common.{◌++◌, Vec, Global, below_more, replicate, ◌≡◌, ℕ, ◌+◌, ◌<◌, ◌≤◌, List, [], ◌∷◌, length, get_or, set, All, Contains, ℤ, pos, negsuc, neg_ℤ, ◌+ℤ◌, ◌-ℤ◌, ◌≤ℤ◌, ◌<ℤ◌, refl, sym, ap, ◌∙◌, subst, arith, inl, inr, get_or-set_same, get_or-set_other, length-set}
 use Rattle.std.proofs.lemmas.Int.{ints}
-use Rattle.std.proofs.lemmas.List.{map_push, get_or_push, get_or_append_left, get_or-map, length-map, length-replicate, get_or-replicate}
+use Rattle.std.proofs.lemmas.List.{map_push, get_or_push, get_or_append_left, length-map, length-replicate, get_or-replicate}
 use Rattle.std.proofs.lemmas.List.Sums.{sum_by-set}
 use Rattle.std.proofs.lemmas.List.Elements.{All-contains, All-from_recursion, recursion_from_All, Contains-get_or}
-use Rattle.std.proofs.lemmas.List.Sorted.{All-permutation, IsPermutation-sym}
-use Rattle.std.specs.List.Sorted.{IsPermutation}
 use Rattle.std.proofs.lemmas.Bool.{cases_eq}
 use Rattle.hs_base.specs.declared.net.Bound.{Bound}
-use Rattle.hs_base.specs.Schedule.{Schedule, time_of, Holds, Meets, MeetsList, Implied, Tight}
+use Rattle.hs_base.specs.Schedule.{Schedule, time_of, Holds, Meets, Implied}
 use Rattle.stn_distance.specs.Ranges.{StaysInTime}
 use Rattle.stn_distance.specs.Causes.{above, bound_at, no_bound}
-use Rattle.stn_distance.specs.Rows.{IsStep, Sample, Reaches, Returns, room, IsRow, AreRows, AreSmall, items_of}
+use Rattle.stn_distance.specs.Rows.{IsStep, Sample, Reaches, Returns, room, IsRow, items_of}
 use Rattle.stn_distance.proofs.CauseLemmas.{above-lt}
 
 -- a schedule keeps each of its bounds
@@ -81,10 +79,10 @@ IsRow-kept count bounds p row lp s h k =
 
 -- ---- The start of a row, and a schedule in range
 
-stays_low : (count : ℕ) (bounds : List Bound) → StaysInTime count bounds → (t : Schedule) → Meets bounds t → (v : ℕ) → v < count → pos 0 ≤ℤ t v
+pub stays_low : (count : ℕ) (bounds : List Bound) → StaysInTime count bounds → (t : Schedule) → Meets bounds t → (v : ℕ) → v < count → pos 0 ≤ℤ t v
 stays_low count bounds h t m v l = let i = (h.after_origin v l).holds t m in let o = m.origin in omega (arith, ints)
 
-stays_high : (count : ℕ) (bounds : List Bound) → StaysInTime count bounds → (t : Schedule) → Meets bounds t → (v : ℕ) → v < count → t v ≤ℤ pos 1000000000
+pub stays_high : (count : ℕ) (bounds : List Bound) → StaysInTime count bounds → (t : Schedule) → Meets bounds t → (v : ℕ) → v < count → t v ≤ℤ pos 1000000000
 stays_high count bounds h t m v l = let i = (h.before_last v l).holds t m in let o = m.origin in omega (arith, ints)
 
 pub Sample-from_schedule : (count : ℕ) (bounds : List Bound) (t : Schedule) → StaysInTime count bounds → Meets bounds t → Sample count bounds

@@ -1,4 +1,4 @@
-use Rattle.std.proofs.Common.{zero, suc, ◌-◌, ◌==◌, ◌≡◌, ◌≢◌, ℕ, ◌+◌, ◌<◌, ◌≤◌, Bool, true, false, cond, eqb, List, [], ◌∷◌, ◌++◌, length, get_or, set, drop, reverse, refl, sym, ap, ◌∙◌, subst, arith, ⊎_elim, inl, inr, get_or-set_same, get_or-set_other, length-set, length-drop, length-append, rules, count_by, get_or-drop, AllPairs}
+use Rattle.std.proofs.Common.{zero, suc, ◌-◌, ◌==◌, ◌≡◌, ℕ, ◌+◌, ◌<◌, cond, List, [], ◌∷◌, ◌++◌, length, get_or, set, drop, reverse, refl, sym, ap, ◌∙◌, subst, arith, inl, inr, get_or-set_same, get_or-set_other, length-set, length-drop, count_by, get_or-drop}
 use Rattle.std.specs.List.{AllByRecursion}
 use Rattle.std.proofs.lemmas.List.{length-reverse, get_or_default, get_or_push, get_or_append_left, get_or-reverse, length_push}
 use Rattle.std.proofs.lemmas.List.Sums.{sum_by-set}

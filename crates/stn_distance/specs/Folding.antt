@@ -1,6 +1,5 @@
 -- Points whose times are fixed are folded into the row of point 0.
 use Rattle.std.specs.Prelude.{◌≡◌, ◌⊎◌, ℕ, Bool, ◌<◌, ◌≤◌, not, nat_eq, List, length, get_or, map, filter, Contains, ℤ, pos, ◌+ℤ◌, ◌-ℤ◌}
-use Rattle.hs_base.specs.declared.ids.PointId.{PointId}
 use Rattle.hs_base.specs.declared.net.Bound.{Bound}
 use Rattle.hs_base.specs.declared.plan.Time.{Time}
 use Rattle.hs_base.specs.Schedule.{Schedule, time_of, bound}

@@ -30,11 +30,7 @@ fn lower_column(count: usize, bounds: &[Bound], column: &mut [i64]) -> bool
 }
 
 /// How far after each point the first can stand.
-pub(crate) fn column_of(
-    alloc: Global,
-    count: usize,
-    bounds: &[Bound],
-) -> Result<Vec<i64>, Memory>
+pub(crate) fn column_of(alloc: Global, count: usize, bounds: &[Bound]) -> Result<Vec<i64>, Memory>
     requires some { 1 ≤ count }
     requires range { All (IsStep count) bounds.now }
     requires stays { StaysInTime count bounds.now }

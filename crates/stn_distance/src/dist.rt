@@ -1,4 +1,5 @@
-ghost use Rattle.std.specs.Prelude.{◌≡◌, ◌<◌, ◌≤◌, All};
+ghost use Rattle.std.specs.Prelude.{◌≡◌, ◌<◌, ◌≤◌, ◌≤ℤ◌, neg_ℤ, All};
+ghost use Rattle.hs_base.specs.declared.limits.TheConstants.{LAST};
 ghost use Rattle.hs_base.specs.Schedule.{Tight};
 ghost use Rattle.hs_base.specs.Reduced.{IsTableOf};
 ghost use Rattle.stn_distance.specs.Ranges.{IsInRange};
@@ -28,9 +29,9 @@ impl Model for Dist {
     ghost Value = { Distances };
 
     ghost view = { λ d. record {
-        count = length d.places.items;
-        bounds = d.bounds.items;
-        rows = rows_of_table (length d.places.items) (folded_weight d.places.items d.offsets.items (items_of d.rows.items));
+      count = length d.places.items;
+      bounds = d.bounds.items;
+      rows = rows_of_table (length d.places.items) (folded_weight d.places.items d.offsets.items (items_of d.rows.items));
     } };
 
     ghost invariant = { λ d. IsExact (length d.places.items) d.bounds.items d.places.items d.offsets.items (items_of d.rows.items) };
@@ -43,6 +44,7 @@ impl Dist {
         requires q { q.0 < self.now.count }
         ensures weight { result ≡ weight self.now p.0 q.0 }
         ensures tight { Tight self.now.bounds p.0 q.0 result }
+        ensures near { (neg_ℤ LAST ≤ℤ result) × (result ≤ℤ LAST) }
     {
         let row = &self.rows[self.places[p.0 as usize] as usize];
         let apart = row[self.places[q.0 as usize] as usize];

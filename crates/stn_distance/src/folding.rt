@@ -122,7 +122,11 @@ pub(crate) fn fold(
 }
 
 /// The times of the rows' points.
-pub(crate) fn times_of_rows(alloc: Global, points: &[u32], times: &[i64]) -> Result<Vec<i64>, Memory>
+pub(crate) fn times_of_rows(
+    alloc: Global,
+    points: &[u32],
+    times: &[i64],
+) -> Result<Vec<i64>, Memory>
     requires { All (λ p. p < length times.now) points.now }
     ensures { IfOk result (λ v. v.items ≡ map (time_of times.now) points.now) }
 {

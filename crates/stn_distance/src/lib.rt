@@ -2,6 +2,7 @@
 #![tactic(auto)]
 
 mod broken;
+mod closure;
 mod column;
 mod dist;
 mod folding;
@@ -9,8 +10,11 @@ mod lowering;
 mod nearest;
 mod rows;
 mod search;
+#[cfg(test)]
+mod tests;
 mod trace;
 
 pub use broken::Broken;
+pub use closure::{ROWS, close, close_fixed};
 pub use dist::Dist;
 pub use search::{POINTS, solve, solve_from};

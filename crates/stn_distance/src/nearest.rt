@@ -99,11 +99,7 @@ pub(crate) fn by_start(alloc: Global, bounds: &[Bound]) -> Result<Vec<Bound>, Me
 }
 
 /// Where the bounds of each point begin in a list by their starts.
-pub(crate) fn index_of(
-    alloc: Global,
-    count: usize,
-    bounds: &[Bound],
-) -> Result<Vec<usize>, Memory>
+pub(crate) fn index_of(alloc: Global, count: usize, bounds: &[Bound]) -> Result<Vec<usize>, Memory>
     requires { count ≤ 131072 }
     ensures { IfOk result (λ v. IsIndex count (length bounds.now) v.items) }
 {

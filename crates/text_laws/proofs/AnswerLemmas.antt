@@ -10,7 +10,7 @@ use Rattle.text_laws.specs.Parsers.{Read, done, stuck, Parser, next}
 use Rattle.text_laws.specs.Reads.{Avoids, HasRead, IsStuck, Lives, Reads}
 use Rattle.text_laws.proofs.ListLemmas.{avoids_none, not_both, same_value, same_rest}
 
-all_taken : (ps : List Piece) (n : ℕ) → length ps ≤ n → take n ps ≡ ps
+pub all_taken : (ps : List Piece) (n : ℕ) → length ps ≤ n → take n ps ≡ ps
 all_taken [] zero h = refl
 all_taken [] (suc n) h = refl
 all_taken (q ∷ ps) zero h = absurd (omega arith)
@@ -134,3 +134,10 @@ trailing_one R p r ps m n h k =
 -- pieces are one sentence at most
 pub sentence_one : {A : Type 0} (R : Language A) (p : Parser A) → Reads R p [] → (ps : List Piece) (x y : A) → R ps x → R ps y → x ≡ y
 sentence_one R p r ps x y h k = same_value (sym (reads_whole R p r ps x h) ∙ reads_whole R p r ps y k)
+
+-- what is left is no more than there was
+pub done_left : {A : Type 0} (R : Language A) (p : Parser A) → Reads R p [] → (ps rest : List Piece) (x : A) → p ps ≡ done x rest → length rest ≤ length ps
+done_left R p r ps rest x h = let m = r.sound ps rest x h in omega (arith, ap length m.split, length-append m.front rest)
+
+pub stuck_left : {A : Type 0} (R : Language A) (p : Parser A) → Reads R p [] → (ps rest : List Piece) → p ps ≡ stuck rest → length rest ≤ length ps
+stuck_left R p r ps rest h = let m = r.halts ps rest h in omega (arith, ap length m.split, length-append m.front rest)

@@ -210,11 +210,14 @@ rest_reads test s R S p q F r a h =
     (λ x. then_reads (Many S) (λ xs. Yields (x ∷ xs)) (many test q) (λ xs. yields (x ∷ xs)) (s ∷ F) (s ∷ F) (many_reads test s S q F a) (λ xs. weaken (Yields (x ∷ xs)) (yields (x ∷ xs)) (s ∷ F) [] (covers_test (s ∷ F) [] refl) (yields_reads (x ∷ xs))) (λ xs. leads_yields (x ∷ xs) (s ∷ F) (s ∷ F) (record { keeps = λ o k. k })))
     (λ x. leads_then (Many S) (λ xs. Yields (x ∷ xs)) (s ∷ F) (s ∷ F) F (leads_many S s (s ∷ F) F a.begins h (record { keeps = avoids_tail s F })) (λ xs. leads_yields (x ∷ xs) (s ∷ F) (s ∷ F) (record { keeps = λ o k. k })))
 
+pub keyed_items : {A : Type 0} (w : String) (R : Language A) (p : Parser A) (F : List Piece) → BeginsWith R (word (codes w)) → Reads R p F → list_any (λ f. same_piece f (word (codes w))) F ≡ false → AreItems (is_word (codes w)) (word (codes w)) R p F
+keyed_items w R p F b r h = record { finds = finds_word w; begins = b; reads = r; behind = avoids_test F (word (codes w)) h }
+
+pub parted_items : {A : Type 0} (sep : String) (R : Language A) (p : Parser A) (F : List Piece) → Reads R p F → list_any (λ f. same_piece f (symbol (byte sep))) F ≡ false → AreItems (is_sign (byte sep)) (symbol (byte sep)) (Behind sep R) (behind sep p) F
+parted_items sep R p F r h = record { finds = finds_sign sep; begins = begins_then (Sign sep) (λ _. R) (symbol (byte sep)) (begins_sign sep); reads = behind_reads sep R p F r; behind = avoids_test F (symbol (byte sep)) h }
+
 pub several_reads : {A : Type 0} (w : String) (R : Language A) (p : Parser A) (F : List Piece) → BeginsWith R (word (codes w)) → Reads R p F → list_any (λ f. same_piece f (word (codes w))) F ≡ false → Reads (Several R) (several w p) (word (codes w) ∷ F)
-several_reads w R p F b r h = rest_reads (is_word (codes w)) (word (codes w)) R R p p F r (record { finds = finds_word w; begins = b; reads = r; behind = avoids_test F (word (codes w)) h }) h
+several_reads w R p F b r h = rest_reads (is_word (codes w)) (word (codes w)) R R p p F r (keyed_items w R p F b r h) h
 
 pub apart_reads : {A : Type 0} (sep : String) (R : Language A) (p : Parser A) (F : List Piece) → Reads R p F → list_any (λ f. same_piece f (symbol (byte sep))) F ≡ false → Reads (Apart sep R) (apart sep p) (symbol (byte sep) ∷ F)
-apart_reads sep R p F r h =
-    rest_reads (is_sign (byte sep)) (symbol (byte sep)) R (Behind sep R) p (behind sep p) F r
-    (record { finds = finds_sign sep; begins = begins_then (Sign sep) (λ _. R) (symbol (byte sep)) (begins_sign sep); reads = behind_reads sep R p F r; behind = avoids_test F (symbol (byte sep)) h })
-    h
+apart_reads sep R p F r h = rest_reads (is_sign (byte sep)) (symbol (byte sep)) R (Behind sep R) p (behind sep p) F r (parted_items sep R p F r h) h

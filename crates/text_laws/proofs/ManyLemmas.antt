@@ -31,7 +31,7 @@ items_more : {A : Type 0} (test : Option Piece → Bool) (p : Parser A) (n : ℕ
 items_more test p n ps rest x h k = rw (h, k)
 
 -- an item takes a piece at least
-shorter : {A : Type 0} (test : Option Piece → Bool) (s : Piece) (R : Language A) (p : Parser A) (F : List Piece) → AreItems test s R p F → (ps rest : List Piece) (x : A) → p ps ≡ done x rest → length rest < length ps
+pub shorter : {A : Type 0} (test : Option Piece → Bool) (s : Piece) (R : Language A) (p : Parser A) (F : List Piece) → AreItems test s R p F → (ps rest : List Piece) (x : A) → p ps ≡ done x rest → length rest < length ps
 shorter test s R p F a ps rest x h =
     let m = a.reads.sound ps rest x h in
     let b = a.begins.begins m.front x m.sentence in

@@ -12,18 +12,19 @@ use Rattle.hs_base.specs.declared.ast.AstSaid.{AstSaid}
 use Rattle.hs_base.specs.declared.ast.AstValue.{AstValue}
 use Rattle.hs_base.specs.declared.ast.AstHorizon.{AstHorizon}
 use Rattle.hs_base.specs.declared.ast.Ast.{Ast}
+use Rattle.hs_base.specs.Names.{is_name}
 use Rattle.hs_base.specs.Ranges.{range, whole}
 use Rattle.hs_base.specs.Pieces.{Piece, word, number as digits, symbol}
 use Rattle.hs_base.specs.Languages.{Language, One, Yields, Then, ◌∣◌, Maybe, Many, Several, Keyword, Sign, Number, After, Behind, Apart, number_says}
-use Rattle.hs_base.specs.MissionText.{version_says, VersionText, name_says, NameText, LimitText, RangeText, UseText, KindText, NextText, DoText, UntilText, PartText, PartsText, ScriptText, SaidText, AnswersText, PlainText, DeviceText, ValueText, SomeUseText, BeginText, VarText, OneRange, TwoRanges, RelationText, ChoiceText, FurtherChoices, NeedText, GoalText, HorizonText, ClausesText, MissionText, until_done}
+use Rattle.hs_base.specs.MissionText.{version_says, VersionText, name_says, NameText, LimitText, RangeText, UseText, KindText, NextText, DoText, UntilText, PartText, PartsText, ScriptText, SaidText, AnswersText, PlainText, DeviceText, ValueText, SomeUseText, BeginText, VarText, OneRange, TwoRanges, RelationText, ChoiceText, FurtherChoices, ChoicesText, NeedText, GoalText, HorizonText, ClausesText, MissionText, until_done}
 use Rattle.text_laws.specs.Parsers.{Parser, next, ◌>>=◌, yields, one, is_word, is_sign, choose, many, keyword, sign, number, after, behind, maybe_after, several, apart}
 use Rattle.text_laws.specs.Reads.{Avoids, Reads, Leads, BeginsWith}
-use Rattle.text_laws.specs.MissionReading.{version_at, name_at, limit_at, range_at, use_at, kind_at, uses_at, next_at, do_at, until_at, part_at, parts_at, script_at, said_at, answers_at, plain_at, device_at, value_at, some_use_at, begin_at, var_at, one_range, two_ranges, relation_at, choice_at, further_at, need_at, goal_at, horizon_at, clauses_at, mission_at}
+use Rattle.text_laws.specs.MissionReading.{version_at, name_at, limit_at, range_at, use_at, kind_at, uses_at, next_at, do_at, until_at, part_at, parts_at, script_at, said_at, answers_at, plain_at, device_at, value_at, some_use_at, begin_at, var_at, one_range, two_ranges, relation_at, choice_at, further_at, choices_at, need_at, goal_at, horizon_at, clauses_at, mission_at}
 use Rattle.text_laws.proofs.ParserLemmas.{one_reads, yields_reads}
 use Rattle.text_laws.proofs.ThenLemmas.{then_reads, then_any}
 use Rattle.text_laws.proofs.ChoiceLemmas.{choose_reads}
 use Rattle.text_laws.proofs.ManyLemmas.{AreItems, many_reads}
-use Rattle.text_laws.proofs.FollowLemmas.{same_piece, Covers, covers_test, avoids_test, weaken, StartsIn, leads_begin, leads_yields, leads_either, leads_then, leads_many, leads_starts, begins_then, begins_keyword, begins_sign, keyword_reads, sign_reads, number_reads, finds_word, finds_sign, starts_after, starts_either, after_reads, behind_reads, maybe_reads, several_reads, apart_reads}
+use Rattle.text_laws.proofs.FollowLemmas.{same_piece, Covers, covers_test, avoids_test, weaken, StartsIn, leads_begin, leads_yields, leads_either, leads_then, leads_many, leads_starts, begins_then, begins_keyword, begins_sign, keyword_reads, sign_reads, number_reads, finds_word, finds_sign, starts_after, starts_either, after_reads, behind_reads, keyed_items, parted_items, maybe_reads, several_reads, apart_reads}
 
 -- nothing is read, and these may not stand behind it
 nothing : {A : Type 0} (value : A) (G : List Piece) → Reads (Yields value) (yields value) G
@@ -34,7 +35,7 @@ unfolding version_at
 version_reads = one_reads version_says (record { pieces = digits (49 ∷ []) ∷ []; value = 1; sentence = (digits (49 ∷ []), refl, refl) })
 
 pub name_reads : (v : ℕ) → Reads (NameText v) (name_at v) []
-unfolding name_at
+unfolding name_at is_name
 name_reads v = one_reads (name_says v) (record { pieces = word (97 ∷ []) ∷ []; value = 97 ∷ []; sentence = (word (97 ∷ []), refl, refl) })
 
 number_is_no_word : (w : List ℕ) (p : Piece) (x : ℤ) → number_says p ≡ Some x → Avoids (word w ∷ []) (Some p)
@@ -71,38 +72,41 @@ kind_reads v =
 
 -- The pieces that may not stand behind a nonterminal.
 
-abbrev kw : String → Piece
+abbrev pub kw : String → Piece
 kw w = word (codes w)
 
-abbrev sg : String → Piece
+abbrev pub sg : String → Piece
 sg c = symbol (byte c)
 
-abbrev next_stops : List Piece
+abbrev pub next_stops : List Piece
 next_stops = kw "then" ∷ sg "," ∷ []
 
-abbrev script_stops : List Piece
+abbrev pub script_stops : List Piece
 script_stops = kw "script" ∷ sg ";" ∷ []
 
-abbrev answers_stops : List Piece
+abbrev pub answers_stops : List Piece
 answers_stops = kw "answers" ∷ sg "," ∷ []
 
-abbrev device_stops : List Piece
+abbrev pub device_stops : List Piece
 device_stops = kw "then" ∷ sg "," ∷ kw "script" ∷ sg ";" ∷ kw "answers" ∷ []
 
-abbrev value_stops : List Piece
+abbrev pub value_stops : List Piece
 value_stops = kw "by" ∷ device_stops
 
-abbrev values_stops : List Piece
+abbrev pub values_stops : List Piece
 values_stops = kw "value" ∷ value_stops
 
-abbrev var_stops : List Piece
+abbrev pub var_stops : List Piece
 var_stops = kw "begin" ∷ values_stops
 
-abbrev goal_stops : List Piece
+abbrev pub goal_stops : List Piece
 goal_stops = kw "start" ∷ kw "stop" ∷ []
 
-abbrev horizon_stops : List Piece
+abbrev pub horizon_stops : List Piece
 horizon_stops = kw "goal" ∷ goal_stops
+
+pub use_items : (v : ℕ) → AreItems (is_sign (byte ",")) (sg ",") (Behind "," (UseText v)) (behind "," (use_at v)) []
+use_items v = parted_items "," (UseText v) (use_at v) [] (use_reads v) refl
 
 pub next_reads : (v : ℕ) → Reads (NextText v) (next_at v) next_stops
 unfolding next_at uses_at
@@ -128,13 +132,19 @@ until_reads v =
 begins_do : (v : ℕ) → BeginsWith (DoText v) (kw "do")
 begins_do v = begins_then (Keyword "do") _ (kw "do") (begins_keyword "do")
 
+pub do_items : (v : ℕ) → AreItems (is_word (codes "do")) (kw "do") (DoText v) (do_at v) []
+do_items v = keyed_items "do" (DoText v) (do_at v) [] (begins_do v) (do_reads v) refl
+
 pub part_reads : (v : ℕ) → Reads (PartText v) (part_at v) []
 unfolding part_at
 part_reads v =
     then_reads (Many (DoText v)) _ (many (is_word (codes "do")) (do_at v)) _ (kw "do" ∷ []) []
-    (many_reads (is_word (codes "do")) (kw "do") (DoText v) (do_at v) [] (record { finds = finds_word "do"; begins = begins_do v; reads = do_reads v; behind = tt }))
+    (many_reads (is_word (codes "do")) (kw "do") (DoText v) (do_at v) [] (do_items v))
     (λ orders. then_any (UntilText v) _ (until_at v) _ [] (until_reads v) (λ last. yields_reads _))
     (λ orders. leads_begin (Then (UntilText v) (λ last. Yields (orders ++ last ∷ []))) (kw "until") [] (kw "do" ∷ []) (begins_then (UntilText v) _ (kw "until") (begins_then (Keyword "until") _ (kw "until") (begins_keyword "until"))) refl)
+
+pub part_items : (v : ℕ) → AreItems (is_sign (byte ";")) (sg ";") (Behind ";" (PartText v)) (behind ";" (part_at v)) []
+part_items v = parted_items ";" (PartText v) (part_at v) [] (part_reads v) refl
 
 pub parts_reads : (v : ℕ) → Reads (PartsText v) (parts_at v) (sg ";" ∷ [])
 unfolding parts_at
@@ -151,19 +161,25 @@ said_reads v =
     then_any Number _ number _ [] number_reads (λ delay.
     then_any (NameText v) _ (name_at v) _ [] (name_reads v) (λ said. yields_reads _))
 
+pub said_items : (v : ℕ) → AreItems (is_sign (byte ",")) (sg ",") (Behind "," (SaidText v)) (behind "," (said_at v)) []
+said_items v = parted_items "," (SaidText v) (said_at v) [] (said_reads v) refl
+
 pub answers_reads : (v : ℕ) → Reads (AnswersText v) (answers_at v) (sg "," ∷ [])
 unfolding answers_at
 answers_reads v = after_reads "answers" _ _ (sg "," ∷ []) (apart_reads "," (SaidText v) (said_at v) [] (said_reads v) refl)
 
+begins_answers : (v : ℕ) → BeginsWith (AnswersText v) (kw "answers")
+begins_answers v = begins_then (Keyword "answers") _ (kw "answers") (begins_keyword "answers")
+
+pub answers_items : (v : ℕ) → AreItems (is_word (codes "answers")) (kw "answers") (AnswersText v) (answers_at v) (sg "," ∷ [])
+answers_items v = keyed_items "answers" (AnswersText v) (answers_at v) (sg "," ∷ []) (begins_answers v) (answers_reads v) refl
+
 pub all_answers_reads : (v : ℕ) → Reads (Many (AnswersText v)) (many (is_word (codes "answers")) (answers_at v)) answers_stops
-all_answers_reads v = many_reads (is_word (codes "answers")) (kw "answers") (AnswersText v) (answers_at v) (sg "," ∷ []) (record { finds = finds_word "answers"; begins = begins_then (Keyword "answers") _ (kw "answers") (begins_keyword "answers"); reads = answers_reads v; behind = avoids_test (sg "," ∷ []) (kw "answers") refl })
+all_answers_reads v = many_reads (is_word (codes "answers")) (kw "answers") (AnswersText v) (answers_at v) (sg "," ∷ []) (answers_items v)
 
 pub plain_reads : (v : ℕ) (name : List ℕ) (lasts : Range) → Reads (PlainText v name lasts) (plain_at v name lasts) next_stops
 unfolding plain_at
 plain_reads v name lasts = then_reads (NextText v) _ (next_at v) _ next_stops next_stops (next_reads v) (λ next'. nothing _ _) (λ next'. leads_yields _ _ _ (covers_test _ _ refl))
-
-begins_answers : (v : ℕ) → BeginsWith (AnswersText v) (kw "answers")
-begins_answers v = begins_then (Keyword "answers") _ (kw "answers") (begins_keyword "answers")
 
 -- `answers` clauses are no stop of what stands before them
 answers_lead : (v : ℕ) (f : List (List AstSaid) → AstValue) (F : List Piece) → list_any (λ s. same_piece s (kw "answers")) F ≡ false → Covers device_stops F → Leads (Then (Many (AnswersText v)) (λ answers. Yields (f answers))) device_stops F
@@ -214,6 +230,9 @@ begin_reads v = maybe_reads "begin" (SomeUseText v) (some_use_at v) None (kw "be
 
 begins_value : (v : ℕ) → BeginsWith (ValueText v) (kw "value")
 begins_value v = begins_then (Keyword "value") _ (kw "value") (begins_keyword "value")
+
+pub value_items : (v : ℕ) → AreItems (is_word (codes "value")) (kw "value") (ValueText v) (value_at v) value_stops
+value_items v = keyed_items "value" (ValueText v) (value_at v) value_stops (begins_value v) (value_reads v) refl
 
 begin_leads : (v : ℕ) → Leads (BeginText v) values_stops values_stops
 begin_leads v =
@@ -303,8 +322,11 @@ pub choice_reads : (v : ℕ) → Reads (ChoiceText v) (choice_at v) []
 unfolding choice_at
 choice_reads v = then_any RelationText _ relation_at _ [] relation_reads (λ relation. then_any (KindText v) _ (kind_at v) _ [] (kind_reads v) (λ by. yields_reads _))
 
+pub choice_items : (v : ℕ) → AreItems (is_word (codes "or")) (kw "or") (After "or" (ChoiceText v)) (after "or" (choice_at v)) []
+choice_items v = keyed_items "or" (After "or" (ChoiceText v)) (after "or" (choice_at v)) [] (begins_then (Keyword "or") _ (kw "or") (begins_keyword "or")) (after_reads "or" _ _ [] (choice_reads v)) refl
+
 more_choices_reads : (v : ℕ) → Reads (Many (After "or" (ChoiceText v))) (many (is_word (codes "or")) (after "or" (choice_at v))) (kw "or" ∷ [])
-more_choices_reads v = many_reads (is_word (codes "or")) (kw "or") (After "or" (ChoiceText v)) (after "or" (choice_at v)) [] (record { finds = finds_word "or"; begins = begins_then (Keyword "or") _ (kw "or") (begins_keyword "or"); reads = after_reads "or" _ _ [] (choice_reads v); behind = tt })
+more_choices_reads v = many_reads (is_word (codes "or")) (kw "or") (After "or" (ChoiceText v)) (after "or" (choice_at v)) [] (choice_items v)
 
 pub further_reads : (v : ℕ) → Reads (FurtherChoices v) (further_at v) (kw "or" ∷ [])
 unfolding further_at
@@ -314,13 +336,18 @@ further_reads v =
     | false ↦ more_choices_reads v
     ]
 
+pub choices_reads : (v : ℕ) → Reads (ChoicesText v) (choices_at v) (kw "or" ∷ [])
+unfolding choices_at
+choices_reads v =
+    then_any (ChoiceText v) _ (choice_at v) _ (kw "or" ∷ []) (choice_reads v) (λ first.
+    then_reads (FurtherChoices v) _ (further_at v) _ (kw "or" ∷ []) (kw "or" ∷ []) (further_reads v) (λ others. nothing _ _) (λ others. leads_yields _ _ _ (covers_test _ _ refl)))
+
 pub need_reads : (v : ℕ) → Reads (NeedText v) (need_at v) (kw "or" ∷ [])
 unfolding need_at
 need_reads v =
     then_any (Keyword "need") _ (keyword "need") _ (kw "or" ∷ []) (keyword_reads "need") (λ _.
     then_any (KindText v) _ (kind_at v) _ (kw "or" ∷ []) (kind_reads v) (λ of.
-    then_any (ChoiceText v) _ (choice_at v) _ (kw "or" ∷ []) (choice_reads v) (λ first.
-    then_reads (FurtherChoices v) _ (further_at v) _ (kw "or" ∷ []) (kw "or" ∷ []) (further_reads v) (λ others. nothing _ _) (λ others. leads_yields _ _ _ (covers_test _ _ refl)))))
+    then_reads (ChoicesText v) _ (choices_at v) _ (kw "or" ∷ []) (kw "or" ∷ []) (choices_reads v) (λ either. nothing _ _) (λ either. leads_yields _ _ _ (covers_test _ _ refl))))
 
 -- a goal's range leads to no stop of another one
 stop_leads : Leads (Maybe (After "stop" RangeText) whole) goal_stops (kw "start" ∷ [])
@@ -341,12 +368,15 @@ goal_reads v =
 begins_goal : (v : ℕ) → BeginsWith (GoalText v) (kw "goal")
 begins_goal v = begins_then (Keyword "goal") _ (kw "goal") (begins_keyword "goal")
 
+pub goal_items : (v : ℕ) → AreItems (is_word (codes "goal")) (kw "goal") (GoalText v) (goal_at v) goal_stops
+goal_items v = keyed_items "goal" (GoalText v) (goal_at v) goal_stops (begins_goal v) (goal_reads v) refl
+
 pub horizon_reads : (v : ℕ) → Reads (HorizonText v) (horizon_at v) horizon_stops
 unfolding horizon_at
 horizon_reads v =
     then_any (Keyword "horizon") _ (keyword "horizon") _ horizon_stops (keyword_reads "horizon") (λ _.
     then_any Number _ number _ horizon_stops number_reads (λ tick.
-    then_reads (Many (GoalText v)) _ (many (is_word (codes "goal")) (goal_at v)) _ horizon_stops horizon_stops (many_reads (is_word (codes "goal")) (kw "goal") (GoalText v) (goal_at v) goal_stops (record { finds = finds_word "goal"; begins = begins_goal v; reads = goal_reads v; behind = avoids_test goal_stops (kw "goal") refl })) (λ goals. nothing _ _) (λ goals. leads_yields _ _ _ (covers_test _ _ refl))))
+    then_reads (Many (GoalText v)) _ (many (is_word (codes "goal")) (goal_at v)) _ horizon_stops horizon_stops (many_reads (is_word (codes "goal")) (kw "goal") (GoalText v) (goal_at v) goal_stops (goal_items v)) (λ goals. nothing _ _) (λ goals. leads_yields _ _ _ (covers_test _ _ refl))))
 
 begins_var : (v : ℕ) → BeginsWith (VarText v) (kw "var")
 begins_var v = begins_then (Keyword "var") _ (kw "var") (begins_keyword "var")
@@ -356,6 +386,15 @@ begins_need v = begins_then (Keyword "need") _ (kw "need") (begins_keyword "need
 
 begins_horizon : (v : ℕ) → BeginsWith (HorizonText v) (kw "horizon")
 begins_horizon v = begins_then (Keyword "horizon") _ (kw "horizon") (begins_keyword "horizon")
+
+pub var_items : (v : ℕ) → AreItems (is_word (codes "var")) (kw "var") (VarText v) (var_at v) var_stops
+var_items v = keyed_items "var" (VarText v) (var_at v) var_stops (begins_var v) (var_reads v) refl
+
+pub need_items : (v : ℕ) → AreItems (is_word (codes "need")) (kw "need") (NeedText v) (need_at v) (kw "or" ∷ [])
+need_items v = keyed_items "need" (NeedText v) (need_at v) (kw "or" ∷ []) (begins_need v) (need_reads v) refl
+
+pub horizon_items : (v : ℕ) → AreItems (is_word (codes "horizon")) (kw "horizon") (HorizonText v) (horizon_at v) horizon_stops
+horizon_items v = keyed_items "horizon" (HorizonText v) (horizon_at v) horizon_stops (begins_horizon v) (horizon_reads v) refl
 
 abbrev vars_stops : List Piece
 vars_stops = kw "var" ∷ var_stops
@@ -373,7 +412,7 @@ pub clauses_reads : (v : ℕ) → Reads (ClausesText v) (clauses_at v) []
 unfolding clauses_at
 clauses_reads v =
     then_reads (Several (VarText v)) _ (several "var" (var_at v)) _ vars_stops [] (several_reads "var" (VarText v) (var_at v) var_stops (begins_var v) (var_reads v) refl)
-    (λ vars. then_reads (Many (NeedText v)) _ (many (is_word (codes "need")) (need_at v)) _ needs_stops [] (many_reads (is_word (codes "need")) (kw "need") (NeedText v) (need_at v) (kw "or" ∷ []) (record { finds = finds_word "need"; begins = begins_need v; reads = need_reads v; behind = avoids_test (kw "or" ∷ []) (kw "need") refl }))
+    (λ vars. then_reads (Many (NeedText v)) _ (many (is_word (codes "need")) (need_at v)) _ needs_stops [] (many_reads (is_word (codes "need")) (kw "need") (NeedText v) (need_at v) (kw "or" ∷ []) (need_items v))
       (λ needs. then_reads (Several (HorizonText v)) _ (several "horizon" (horizon_at v)) _ horizons_stops [] (several_reads "horizon" (HorizonText v) (horizon_at v) horizon_stops (begins_horizon v) (horizon_reads v) refl)
         (λ horizons. then_any (Keyword "end") _ (keyword "end") _ [] (keyword_reads "end") (λ _. yields_reads _))
         (λ horizons. leads_begin _ (kw "end") [] horizons_stops (begins_then (Keyword "end") _ (kw "end") (begins_keyword "end")) refl))

@@ -162,13 +162,18 @@ choice_at v = do
 unfoldable pub further_at : ℕ → Parser (List AstChoice)
 further_at v = cond (nat_eq v 1) (yields []) (many (is_word (codes "or")) (after "or" (choice_at v)))
 
+unfoldable pub choices_at : ℕ → Parser (List AstChoice)
+choices_at v = do
+  first ← choice_at v
+  others ← further_at v
+  yields (first ∷ others)
+
 unfoldable pub need_at : ℕ → Parser AstNeed
 need_at v = do
   _ ← keyword "need"
   of ← kind_at v
-  first ← choice_at v
-  others ← further_at v
-  yields (record { of = of; either = first ∷ others })
+  either ← choices_at v
+  yields (record { of = of; either = either })
 
 unfoldable pub goal_at : ℕ → Parser AstGoal
 goal_at v = do

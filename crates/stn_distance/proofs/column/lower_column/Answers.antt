@@ -1,4 +1,4 @@
-use Rattle.std.proofs.Common.{Bool, true, false, ◌<◌, ◌≤◌, ◌≡◌, ℤ, ◌+ℤ◌, to_z, of_z, w64, arith, set, length}
+use Rattle.std.proofs.Common.{◌<◌, ◌≡◌, ℤ, ◌+ℤ◌, to_z, of_z, w64, arith, set}
 use Rattle.std.proofs.lemmas.Int.{ints}
 use Rattle.hs_base.specs.Schedule.{time_of}
 use Rattle.stn_distance.specs.Causes.{bound_at}

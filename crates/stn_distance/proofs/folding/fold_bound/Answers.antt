@@ -1,8 +1,7 @@
-use Rattle.std.proofs.Common.{◌≡◌, ℤ, pos, ◌+ℤ◌, ◌-ℤ◌, to_z, of_z, w64, arith, sym}
+use Rattle.std.proofs.Common.{◌≡◌, pos, ◌+ℤ◌, ◌-ℤ◌, to_z, of_z, w64, arith}
 use Rattle.std.proofs.lemmas.Int.{ints}
 use Rattle.std.proofs.lemmas.List.{get_or_read}
 use Rattle.hs_base.specs.Schedule.{time_of}
-use Rattle.stn_distance.specs.Folding.{number_at}
 use Rattle.stn_distance.proofs.folding.fold_bound.Goals as goal
 
 pub overflow_sub-result : goal.overflow_sub-result

@@ -1,4 +1,4 @@
-use Rattle.std.proofs.Common.{arith, rules, length, get_or, SFits, w64, pos}
+use Rattle.std.proofs.Common.{arith, rules, get_or, SFits, w64, pos}
 use Rattle.std.proofs.lemmas.Int.{to_z-of_z}
 use Rattle.hs_base.specs.declared.plan.Time.{Time}
 use Rattle.std.proofs.lemmas.List.Elements.{Contains-get_or}

@@ -1,4 +1,3 @@
-use Rattle.std.proofs.Common.{◌≤◌, length}
 use Rattle.stn_distance.specs.Folding.{IsFolding}
 use Rattle.stn_distance.proofs.folding.folding_of.Given as goal
 

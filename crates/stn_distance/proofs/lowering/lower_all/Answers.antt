@@ -1,4 +1,4 @@
-use Rattle.std.proofs.Common.{Option, ◌+◌, below_more, ◌≡◌, ℕ, ◌<◌, length, ℤ, pos, ◌+ℤ◌, to_z, of_z, w64, arith, get_or-set_same, refl, ap, set, None, Some, MatchOption, subst}
+use Rattle.std.proofs.Common.{Option, ◌+◌, below_more, ◌≡◌, ℕ, ◌<◌, length, ℤ, pos, ◌+ℤ◌, to_z, of_z, w64, arith, get_or-set_same, refl, set, None, Some, MatchOption, subst}
 use Rattle.std.proofs.lemmas.Int.{ints}
 use Rattle.hs_base.specs.Schedule.{time_of, Holds}
 use Rattle.stn_distance.specs.Causes.{no_bound, bound_at, slack, place}

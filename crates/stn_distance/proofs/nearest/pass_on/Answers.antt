@@ -1,7 +1,7 @@
-use Rattle.std.proofs.Common.{List, ℕ, ◌+◌, ◌*◌, ◌<◌, ◌≤◌, ◌≡◌, ◌∙◌, length, ℤ, pos, ◌+ℤ◌, ◌≤ℤ◌, to_z, of_z, w64, arith, set, get_or, refl, length-set}
+use Rattle.std.proofs.Common.{◌<◌, ◌≡◌, ℤ, ◌+ℤ◌, to_z, of_z, w64, arith, set}
 use Rattle.std.proofs.lemmas.Int.{ints}
 use Rattle.hs_base.specs.Schedule.{time_of}
-use Rattle.stn_distance.specs.Causes.{bound_at, no_bound}
+use Rattle.stn_distance.specs.Causes.{bound_at}
 use Rattle.stn_distance.specs.Rows.{room}
 use Rattle.stn_distance.proofs.RowLemmas.{StepFacts-at, Reaches-lowered, room-set}
 use Rattle.stn_distance.proofs.nearest.pass_on.Goals as goal

@@ -1,8 +1,7 @@
-use Rattle.std.proofs.Common.{Bool, true, false, List, ℕ, ◌+◌, ◌<◌, ◌≤◌, ◌≡◌, ◌∙◌, length, ℤ, pos, ◌+ℤ◌, ◌≤ℤ◌, to_z, of_z, w64, arith, set, get_or, refl, below_more, Contains}
+use Rattle.std.proofs.Common.{Bool, true, false, ◌<◌, ◌≡◌, ℤ, ◌+ℤ◌, to_z, of_z, w64, arith, set, below_more}
 use Rattle.std.specs.Bool.{OnTrue, OnFalse}
 use Rattle.std.proofs.lemmas.Int.{ints}
-use Rattle.std.proofs.lemmas.List.Elements.{All-from_get_or, Contains-get_or}
-use Rattle.hs_base.specs.declared.net.Bound.{Bound}
+use Rattle.std.proofs.lemmas.List.Elements.{All-from_get_or}
 use Rattle.hs_base.specs.Schedule.{time_of, Holds}
 use Rattle.stn_distance.specs.Causes.{bound_at, no_bound}
 use Rattle.stn_distance.specs.Rows.{room}

@@ -1,4 +1,4 @@
-use Rattle.std.proofs.Common.{ℕ, ◌<◌, ◌≤◌, length}
+use Rattle.std.proofs.Common.{ℕ, ◌<◌, ◌≤◌}
 use Rattle.std.specs.Bool.{OnTrue, OnFalse}
 use Rattle.hs_base.specs.Schedule.{time_of, Holds}
 use Rattle.stn_distance.specs.Causes.{bound_at}

@@ -1,4 +1,4 @@
-use Rattle.std.proofs.Common.{sym, subst, arith, length, ◌≡◌}
+use Rattle.std.proofs.Common.{sym, subst, arith}
 use Rattle.std.proofs.lemmas.List.{take_at}
 use Rattle.stn_distance.specs.Rows.{IsRow}
 use Rattle.stn_distance.proofs.rows.origin_row.Goals as goal

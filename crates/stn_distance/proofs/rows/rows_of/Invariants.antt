@@ -1,4 +1,4 @@
-use Rattle.std.proofs.Common.{◌≡◌, ℕ, ◌<◌, length, get_or, [], map}
+use Rattle.std.proofs.Common.{◌≡◌, ℕ, ◌<◌, length, get_or, []}
 use Rattle.stn_distance.specs.Rows.{IsRow, items_of}
 use Rattle.stn_distance.proofs.rows.rows_of.Given as goal
 

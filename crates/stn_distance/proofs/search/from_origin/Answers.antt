@@ -1,4 +1,4 @@
-use Rattle.std.proofs.Common.{◌≡◌, ℕ, ◌<◌, ◌≤◌, ◌+◌, ℤ, ◌+ℤ◌, ◌-ℤ◌, to_z, of_z, w64, length, pos, set, get_or-set_same, get_or-set_other, arith, ◌∙◌, below_more}
+use Rattle.std.proofs.Common.{◌≡◌, ℤ, ◌-ℤ◌, to_z, of_z, w64, pos, set, get_or-set_same, get_or-set_other, arith, ◌∙◌, below_more}
 use Rattle.std.proofs.lemmas.Int.{ints}
 use Rattle.hs_base.specs.Schedule.{time_of}
 use Rattle.stn_distance.proofs.search.from_origin.Goals as goal

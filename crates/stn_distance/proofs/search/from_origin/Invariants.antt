@@ -1,4 +1,4 @@
-use Rattle.std.proofs.Common.{◌≡◌, ℕ, ◌<◌, ◌≤◌, ◌-ℤ◌, length}
+use Rattle.std.proofs.Common.{◌≡◌, ℕ, ◌<◌, ◌≤◌, ◌-ℤ◌}
 use Rattle.hs_base.specs.Schedule.{time_of}
 use Rattle.stn_distance.proofs.search.from_origin.Given as goal
 

@@ -1,5 +1,4 @@
 use Rattle.std.proofs.Common.{List, ℕ, ℤ, ◌<◌, ◌-ℤ◌, arith, ◌≡◌, ◌∙◌, length, ap}
-use Rattle.std.proofs.lemmas.Int.{ints}
 use Rattle.std.proofs.lemmas.List.{take_at}
 use Rattle.hs_base.specs.Schedule.{time_of}
 use Rattle.stn_distance.proofs.CauseLemmas.{Explained-start, IsAboveFloor-start, MeetsList-moved, IsNear-moved}

@@ -1,5 +1,3 @@
-use Rattle.std.proofs.Common.{arith}
-use Rattle.std.proofs.lemmas.Int.{ints}
 use Rattle.stn_distance.proofs.CauseLemmas.{IsNegativeCycle-from_round, HasNoSchedule-from_cycle, not_low}
 use Rattle.stn_distance.proofs.search.turn_over.Goals as goal
 use lib.Signed.{clash_ℤ}

@@ -1,8 +1,8 @@
-use Rattle.std.proofs.Common.{refl, arith, rules, sym, ap, ◌∙◌, get_or, set, reverse, drop, length, ◌≤◌, ◌≡◌, ◌<◌, ◌++◌, ◌∷◌, []}
+use Rattle.std.proofs.Common.{refl, arith, sym, ap, ◌∙◌, get_or, reverse, drop, length, ◌≡◌, ◌<◌, ◌++◌, ◌∷◌, []}
 use Rattle.std.proofs.lemmas.List.{get_or_read}
 use Rattle.std.proofs.lemmas.Grind.{common_steps}
-use Rattle.stn_distance.specs.Causes.{bound_at, no_bound, IsRound}
-use Rattle.stn_distance.proofs.TraceLemmas.{OnPath, OnPath-more, OnPath-falls, IsRound-closed}
+use Rattle.stn_distance.specs.Causes.{bound_at, no_bound}
+use Rattle.stn_distance.proofs.TraceLemmas.{OnPath-more, IsRound-closed}
 use Rattle.stn_distance.proofs.trace.trace.Goals as goal
 
 pub back-preserved : goal.back-preserved

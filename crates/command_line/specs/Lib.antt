@@ -1,0 +1,4 @@
+pub mod Found
+pub mod Line
+pub mod Unasked
+pub mod Words

@@ -1,0 +1,4 @@
+pub mod ByteLemmas
+pub mod CutLemmas
+pub mod LoopLemmas
+pub mod ReadLemmas

@@ -1,0 +1,4 @@
+pub mod Spelled
+pub mod Cutting
+pub mod Answers
+pub mod Loops

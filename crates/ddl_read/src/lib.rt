@@ -1,0 +1,23 @@
+//! Reads mission texts.
+#![tactic(auto)]
+
+mod bytes;
+mod cut;
+mod large;
+mod mission;
+mod name;
+mod need;
+mod next;
+mod number;
+mod piece;
+mod pieces;
+mod range;
+mod reader;
+mod reading;
+mod script;
+mod unread;
+mod value;
+
+pub use piece::{Piece, PieceKind};
+pub use pieces::Pieces;
+pub use reading::{read, read_front};

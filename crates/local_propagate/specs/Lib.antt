@@ -1,0 +1,4 @@
+pub mod Tournament
+pub mod Joined
+pub mod Narrowed
+pub mod Windows

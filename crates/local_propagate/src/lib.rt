@@ -1,0 +1,10 @@
+//! Windows of rigid groups, propagated to immediate neighbours alone.
+#![tactic(auto)]
+
+mod minima;
+mod neighbours;
+mod places;
+mod windows;
+
+pub use minima::Minima;
+pub use windows::{NEVER, Windows};

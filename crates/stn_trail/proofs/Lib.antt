@@ -1,0 +1,10 @@
+pub mod CoveredLemmas
+pub mod HistoryLemmas
+pub mod MoveLemmas
+pub mod PartLemmas
+pub mod RaisingLemmas
+pub mod RoundLemmas
+pub mod RowLemmas
+pub mod SettleLemmas
+pub mod TrailLemmas
+pub mod AddingLemmas

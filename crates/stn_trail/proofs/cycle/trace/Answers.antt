@@ -1,0 +1,15 @@
+use Rattle.std.proofs.Common.{◌≡◌, arith, ◌∙◌}
+use Rattle.std.proofs.lemmas.Int.{ints}
+use Rattle.stn_trail.specs.Rounds.{cause_at}
+use Rattle.stn_trail.proofs.RoundLemmas.{IsWay-more, IsRound-closed}
+use Rattle.stn_trail.proofs.cycle.trace.Goals as goal
+
+pub back-preserved : goal.back-preserved
+back-preserved c =
+    let b = c.in-Some.ensures in let w = c.back.invariant in
+    let sum = c.in-Some-checked_add.ensures in
+    rw c.in_ok-push-2.ensures.ok (IsWay-more c.args.rows.now (cause_at c.args.rows.now c.args.causes.now) c.args.first c.back.cycle c.back.at _ c.in-Some.bound _ w c.if-at-first.false b.is b.start b.given (omega (arith, ints)))
+
+pub returns-then-total-lt0 : goal.returns-then-total-lt0
+returns-then-total-lt0 c =
+    IsRound-closed c.args.rows.now (cause_at c.args.rows.now c.args.causes.now) c.args.first c.back.cycle c.back.at _ c.back.invariant c.if-at-first.true (omega (arith, ints))

@@ -1,0 +1,29 @@
+use Rattle.std.proofs.Common.{◌≡◌, ◌∙◌, ap, subst, List, [], ℤ, Option, IfSome}
+use Rattle.hs_base.specs.declared.net.Bound.{Bound}
+use Rattle.hs_base.specs.Schedule.{time_of}
+use Rattle.stn_distance.proofs.CauseLemmas.{HasNoSchedule-from_cycle}
+use Rattle.stn_trail.specs.Rounds.{IsRound}
+use Rattle.stn_trail.specs.Found.{Finds}
+use Rattle.stn_trail.specs.Held.{added}
+use Rattle.stn_trail.specs.History.{parts_of}
+use Rattle.stn_trail.proofs.SettleLemmas.{AreRows-in_range, Meets-covered, IsNegativeCycle-round}
+use Rattle.stn_trail.proofs.settle.settle.Goals as goal
+
+pub raise_last-requires-clause-rows : goal.raise_last-requires-clause-rows
+raise_last-requires-clause-rows c = AreRows-in_range c.args.points (added (parts_of c.args.steps.now)) c.args.rows.now c.requires.rows c.requires.range c.requires.room.0
+
+pub trace-requires-clause-rows : goal.trace-requires-clause-rows
+trace-requires-clause-rows c = AreRows-in_range c.args.points (added (parts_of c.args.steps.now)) c.args.rows.now c.requires.rows c.requires.range c.requires.room.0
+
+pub returns-in-Kept-clause-schedule : goal.returns-in-Kept-clause-schedule
+returns-in-Kept-clause-schedule c =
+    Meets-covered c.args.points (added (parts_of c.args.steps.now)) c.args.rows.now _ c.requires.rows c.requires.range c.requires.room.0
+    (subst (Finds c.args.rows.now c.raise_last.new.times.ticks.items []) c.in-Kept.is c.in_ok-raise_last.ensures.found)
+    (c.raise_last.ensures.origin ∙ ap (λ (xs : List ℤ). time_of xs 0) c.anchor.ensures.same ∙ c.requires.origin)
+
+pub returns-in-Some-clause-cycle : goal.returns-in-Some-clause-cycle
+returns-in-Some-clause-cycle c = IsNegativeCycle-round (added (parts_of c.args.steps.now)) c.args.rows.now c.in-Some.cycle c.requires.rows
+    (subst (λ (o : Option (List Bound)). IfSome o (IsRound c.args.rows.now)) c.in-Some.is c.in_ok-cycle-in-Back.ensures)
+
+pub returns-in-Some-clause-none : goal.returns-in-Some-clause-none
+returns-in-Some-clause-none c = HasNoSchedule-from_cycle (added (parts_of c.args.steps.now)) c.in-Some.cycle (returns-in-Some-clause-cycle c)

@@ -1,0 +1,6 @@
+pub mod NumberLemmas
+pub mod ItemLemmas
+pub mod TableLemmas
+pub mod GrowthLemmas
+pub mod RowLemmas
+pub mod SampleLemmas

@@ -1,0 +1,6 @@
+use Rattle.std.proofs.Common.{◌≡◌, take}
+use Rattle.hs_base.specs.Points.{count}
+use Rattle.token_net.proofs.numbers.points_of_all.Given as goal
+
+abbrev pub invariant-loop-extension : goal.invariant-loop-extension
+invariant-loop-extension l = l.points ≡ count (take l.extension-index l.extensions)

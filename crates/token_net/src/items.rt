@@ -1,0 +1,274 @@
+ghost use Rattle.std.specs.Prelude.{◌≡◌, ◌-◌, ◌≤◌, [], ◌∷◌, ◌++◌, cond, pos, negsuc, neg_ℤ, ◌≤ℤ◌, length, All, slice_get, OnOk};
+ghost use Rattle.hs_base.specs.Schedule.{bound};
+ghost use Rattle.hs_base.specs.Bounds.{on_some, exactly, point_bounds, fixed_bounds};
+ghost use Rattle.hs_base.specs.Missions.{IsMission};
+ghost use Rattle.token_net.specs.Rows.{length_row, length_rows, start_rows, last_in, last_rows, support_row, support_rows, goal_row, goal_rows, since_rows};
+
+use crate::apart::{Ends, add_apart, add_exactly, add_relation};
+use crate::lookups::{choice_at, need_at, value_at};
+use crate::table::{Placed, Table};
+use hs_base::{Bound, Goal, LAST, List, Memory, Mission, PointId, Range, Support, Time, TokenRef};
+
+const WHOLE: Range = Range { low: 0, high: LAST };
+
+/// Adds the bound by which `x` stands before `y`.
+fn add_before(made: &mut List<Bound>, x: PointId, y: PointId) -> Result<(), Memory>
+    ensures { OnOk result (made.new ≡ made.old ++ bound y.0 x.0 (negsuc 0) ∷ []) }
+{
+    made.push(Bound {
+        from: y,
+        to: x,
+        most: -1,
+    })
+}
+
+/// The horizon point stands at the horizon.
+pub(crate) fn add_horizon(
+    made: &mut List<Bound>,
+    mission: &Mission,
+    number: usize,
+    mark: PointId,
+) -> Result<(), Memory>
+    requires { IsMission mission.now }
+    ensures { OnOk result (made.new ≡ made.old ++ on_some (slice_get mission.now.horizons number) (λ h. exactly mark.0 h.tick)) }
+{
+    match mission.horizons.as_slice().get(number) {
+        Some(horizon) => add_exactly(made, mark, horizon.tick),
+        None => Ok(()),
+    }
+}
+
+/// The points from `first` on stand within 0 to LAST.
+#[tactic(auto, using(crate::proofs::ItemLemmas::flat_numbers))]
+pub(crate) fn add_points(made: &mut List<Bound>, first: u32, points: u32) -> Result<(), Memory>
+    requires { first ≤ points }
+    ensures { OnOk result (made.new ≡ made.old ++ point_bounds first (points - first)) }
+{
+    for x in first..points {
+        add_apart(made, PointId(x), PointId(0), WHOLE)?;
+    }
+    Ok(())
+}
+
+/// A new token lasts as long as its value may.
+#[tactic(auto, using(base_laws::proofs::MissionLemmas::lasts_low))]
+fn add_length(
+    made: &mut List<Bound>,
+    mission: &Mission,
+    table: &Table,
+    token: TokenRef,
+) -> Result<(), Memory>
+    requires { IsMission mission.now }
+    ensures { OnOk result (made.new ≡ made.old ++ length_row mission.now table.now.rows.items table.now.points token) }
+{
+    let Some(kind) = table.kind(token) else {
+        return Ok(());
+    };
+    match value_at(mission, kind) {
+        Some(value) => add_apart(made, table.stop(token), table.start(token), value.lasts),
+        None => Ok(()),
+    }
+}
+
+/// New tokens last as long as their values may.
+#[tactic(auto, using(crate::proofs::ItemLemmas::flat_more))]
+pub(crate) fn add_lengths(
+    made: &mut List<Bound>,
+    mission: &Mission,
+    table: &Table,
+    new: &[TokenRef],
+) -> Result<(), Memory>
+    requires { IsMission mission.now }
+    ensures { OnOk result (made.new ≡ made.old ++ length_rows mission.now table.now.rows.items table.now.points new.now) }
+{
+    for token in new {
+        add_length(made, mission, table, *token)?;
+    }
+    Ok(())
+}
+
+/// New tokens start before the horizon.
+#[tactic(auto, using(crate::proofs::ItemLemmas::flat_more))]
+pub(crate) fn add_starts(
+    made: &mut List<Bound>,
+    table: &Table,
+    mark: PointId,
+    new: &[TokenRef],
+) -> Result<(), Memory>
+    ensures { OnOk result (made.new ≡ made.old ++ start_rows table.now.rows.items table.now.points mark.0 new.now) }
+{
+    for token in new {
+        add_before(made, table.start(*token), mark)?;
+    }
+    Ok(())
+}
+
+/// A timeline ends after the horizon.
+fn add_last(made: &mut List<Bound>, row: &[Placed], mark: PointId) -> Result<(), Memory>
+    ensures { OnOk result (made.new ≡ made.old ++ last_in mark.0 row.now) }
+{
+    match row.last() {
+        Some(placed) => add_before(made, mark, placed.end),
+        None => Ok(()),
+    }
+}
+
+/// Each timeline ends after the horizon.
+#[tactic(auto, using(crate::proofs::ItemLemmas::flat_more))]
+pub(crate) fn add_lasts(made: &mut List<Bound>, table: &Table, mark: PointId) -> Result<(), Memory>
+    ensures { OnOk result (made.new ≡ made.old ++ last_rows table.now.rows.items mark.0) }
+{
+    for row in &table.rows {
+        add_last(made, row.as_slice(), mark)?;
+    }
+    Ok(())
+}
+
+/// A support keeps the relation of the choice that its token is for.
+#[tactic(auto, using(base_laws::proofs::MissionLemmas::choice_ranges))]
+fn add_support(
+    made: &mut List<Bound>,
+    mission: &Mission,
+    table: &Table,
+    support: Support,
+) -> Result<(), Memory>
+    requires { IsMission mission.now }
+    ensures { OnOk result (made.new ≡ made.old ++ support_row mission.now table.now.rows.items table.now.points support) }
+{
+    let Some(kind) = table.kind(support.token) else {
+        return Ok(());
+    };
+    let Some(need) = need_at(mission, kind, support.need) else {
+        return Ok(());
+    };
+    let Some(by) = table.kind(support.by) else {
+        return Ok(());
+    };
+    match choice_at(need, by) {
+        Some(choice) => add_relation(
+            made,
+            choice.relation,
+            table.ends(support.token),
+            table.ends(support.by),
+        ),
+        None => Ok(()),
+    }
+}
+
+/// Supports keep the relations of the choices that their tokens are for.
+#[tactic(auto, using(crate::proofs::ItemLemmas::flat_more))]
+pub(crate) fn add_supports(
+    made: &mut List<Bound>,
+    mission: &Mission,
+    table: &Table,
+    supports: &[Support],
+) -> Result<(), Memory>
+    requires { IsMission mission.now }
+    ensures { OnOk result (made.new ≡ made.old ++ support_rows mission.now table.now.rows.items table.now.points supports.now) }
+{
+    for support in supports {
+        add_support(made, mission, table, *support)?;
+    }
+    Ok(())
+}
+
+/// A goal's token starts and stops in the goal's ranges.
+fn add_goal(
+    made: &mut List<Bound>,
+    table: &Table,
+    goal: &Goal,
+    token: TokenRef,
+) -> Result<(), Memory>
+    requires start { pos 0 ≤ℤ goal.now.start.low }
+    requires stop { pos 0 ≤ℤ goal.now.stop.low }
+    ensures { OnOk result (made.new ≡ made.old ++ goal_row table.now.rows.items table.now.points goal.now token) }
+{
+    add_apart(made, table.start(token), PointId(0), goal.start)?;
+    add_apart(made, table.stop(token), PointId(0), goal.stop)
+}
+
+/// The goals' tokens start and stop in the goals' ranges.
+#[tactic(auto, using(crate::proofs::ItemLemmas::goals_more, crate::proofs::ItemLemmas::goals_all))]
+pub(crate) fn add_goals(
+    made: &mut List<Bound>,
+    table: &Table,
+    goals: &[Goal],
+    entries: &[TokenRef],
+) -> Result<(), Memory>
+    requires { All (λ g. (pos 0 ≤ℤ g.start.low) × (pos 0 ≤ℤ g.stop.low)) goals.now }
+    ensures { OnOk result (made.new ≡ made.old ++ goal_rows table.now.rows.items table.now.points goals.now entries.now) }
+{
+    let count = goals.len().min(entries.len());
+    for i in 0..count {
+        add_goal(made, table, &goals[i], entries[i])?;
+    }
+    Ok(())
+}
+
+/// The tokens of a horizon's goals start and stop in the goals' ranges.
+pub(crate) fn add_goals_of(
+    made: &mut List<Bound>,
+    mission: &Mission,
+    table: &Table,
+    number: usize,
+    entries: &[TokenRef],
+) -> Result<(), Memory>
+    requires { IsMission mission.now }
+    ensures { OnOk result (made.new ≡ made.old ++ goal_rows table.now.rows.items table.now.points (on_some (slice_get mission.now.horizons number) (λ h. h.goals)) entries.now) }
+{
+    match mission.horizons.as_slice().get(number) {
+        Some(horizon) => add_goals(made, table, horizon.goals.as_slice(), entries),
+        None => Ok(()),
+    }
+}
+
+/// Fixed points have their times.
+#[tactic(auto, using(crate::proofs::ItemLemmas::flat_more))]
+pub(crate) fn add_fixed(made: &mut List<Bound>, times: &[Time]) -> Result<(), Memory>
+    requires { All (λ t. pos 0 ≤ℤ t.at) times.now }
+    ensures { OnOk result (made.new ≡ made.old ++ fixed_bounds times.now) }
+{
+    for time in times {
+        add_exactly(made, time.point, time.at)?;
+    }
+    Ok(())
+}
+
+/// A point that is not fixed stands at that time or later.
+fn add_since_at(
+    made: &mut List<Bound>,
+    is_fixed: bool,
+    point: u32,
+    since: i64,
+) -> Result<(), Memory>
+    requires { pos 0 ≤ℤ since }
+    ensures { OnOk result (made.new ≡ made.old ++ cond is_fixed [] (bound point 0 (neg_ℤ since) ∷ [])) }
+{
+    if is_fixed {
+        return Ok(());
+    }
+    made.push(Bound {
+        from: PointId(point),
+        to: PointId(0),
+        most: -since,
+    })
+}
+
+/// The points but Z that are not fixed stand at that time or later.
+#[tactic(auto, using(crate::proofs::ItemLemmas::flat_numbers))]
+pub(crate) fn add_since(
+    made: &mut List<Bound>,
+    fixed: &[bool],
+    points: u32,
+    since: i64,
+) -> Result<(), Memory>
+    requires some { 1 ≤ points }
+    requires flags { points ≤ length fixed.now }
+    requires time { pos 0 ≤ℤ since }
+    ensures { OnOk result (made.new ≡ made.old ++ since_rows fixed.now points since) }
+{
+    for x in 1..points {
+        add_since_at(made, fixed[x as usize], x, since)?;
+    }
+    Ok(())
+}
