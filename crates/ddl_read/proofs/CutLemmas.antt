@@ -165,8 +165,8 @@ gap_shrinks false (c ∷ cs) =
     let h = gap_shrinks false cs in
     let k = gap_shrinks true cs in
     elim (is_space c) as (λ s. length (cond s (after_gap false cs) (cond (nat_eq c 35) (after_gap true cs) (c ∷ cs))) ≤ length (c ∷ cs)) [
-    | true ↦ omega (arith, h)
-    | false ↦ elim (nat_eq c 35) as (λ s. length (cond s (after_gap true cs) (c ∷ cs)) ≤ length (c ∷ cs)) [ true ↦ omega (arith, k) | false ↦ omega arith ]
+      | true ↦ omega (arith, h)
+      | false ↦ elim (nat_eq c 35) as (λ s. length (cond s (after_gap true cs) (c ∷ cs)) ≤ length (c ∷ cs)) [ true ↦ omega (arith, k) | false ↦ omega arith ]
     ]
 
 takes_byte : (p : Spelling) (behind : List ℕ) → IsPiece p behind → 0 < length (bytes_of p)

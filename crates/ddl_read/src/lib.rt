@@ -20,4 +20,6 @@ mod value;
 
 pub use piece::{Piece, PieceKind};
 pub use pieces::Pieces;
+pub use reader::Reader;
 pub use reading::{read, read_front};
+pub use unread::Unread;
