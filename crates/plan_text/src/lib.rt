@@ -2,6 +2,7 @@
 #![tactic(auto)]
 
 mod body;
+mod laws;
 mod names;
 mod nets;
 mod parts;
@@ -15,6 +16,7 @@ mod stop;
 mod tests;
 
 pub use body::push_body;
+pub use laws::a_checked_plan_has_few_points;
 pub use names::{PointName, PointNames};
 pub use nets::{push_counts, write_net};
 pub use parts::{
