@@ -1,5 +1,5 @@
 -- From what was read of the pieces to what the bytes spell.
-use Rattle.std.proofs.Common.{◌≡◌, ℕ, ◌+◌, ◌<◌, ◌≤◌, Bool, true, false, ◌||◌, List, [], ◌∷◌, length, map, take, refl, sym, ap, ◌∙◌, subst, arith}
+use Rattle.std.proofs.Common.{◌≡◌, ℕ, zero, suc, drop, ◌+◌, ◌<◌, ◌≤◌, Bool, true, false, ◌||◌, List, [], ◌∷◌, length, map, take, refl, sym, ap, ◌∙◌, subst, arith}
 use Rattle.std.specs.Prelude.{pos, cond}
 use Rattle.std.specs.List.{AllByRecursion, list_any}
 use Rattle.std.proofs.lemmas.List.{length-map}
@@ -31,6 +31,12 @@ small_each text (p ∷ ps) h e = (((h.0).within, small_kind p.kind (bytes_of_pie
 -- the pieces of a text are spelled as they are kept
 pub are_spelled : (text : List ℕ) (ps : List Piece) → IsCut text ps → AreSpelled text ps
 are_spelled text ps h = small_each text ps h.spelled h.is_text.small
+
+-- and so are those from a number on
+pub spelled_drop : (text : List ℕ) (i : ℕ) (ps : List Piece) → AreSpelled text ps → AreSpelled text (drop i ps)
+spelled_drop text zero ps h = h
+spelled_drop text (suc i) [] h = h
+spelled_drop text (suc i) (p ∷ ps) h = spelled_drop text i ps h.1
 
 same_pieces : (text : List ℕ) (ps : List Piece) → pieces_of (map (placed text) ps) ≡ spellings text ps
 same_pieces text [] = refl

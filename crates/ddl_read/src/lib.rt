@@ -20,7 +20,6 @@ mod value;
 
 pub use piece::{Piece, PieceKind};
 pub use pieces::Pieces;
+pub use reader::Reader;
 pub use reading::{read, read_front};
-
-#[cfg(test)]
-mod tests;
+pub use unread::Unread;

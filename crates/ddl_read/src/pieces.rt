@@ -1,12 +1,13 @@
-ghost use Rattle.std.specs.Prelude.{◌≡◌, ◌<◌, ◌^◌, length, map, slice_get, OnOk, IfErr, MatchResult};
+ghost use Rattle.std.specs.Prelude.{◌≡◌, ◌<◌, ◌^◌, length, map, drop, slice_get, OnOk, IfErr, MatchResult};
 ghost use Rattle.std.specs.Str.{IsUtf8};
 ghost use Rattle.hs_base.specs.Pieces.{IsCutRefusal, place_in};
-ghost use Rattle.ddl_read.specs.Spelled.{OrMemory, placed};
+ghost use Rattle.ddl_read.specs.Spelled.{OrMemory, placed, spellings};
 ghost use Rattle.ddl_read.specs.Cutting.{IsCut, IsUtf8Refusal};
 
 use crate::Piece;
 use crate::cut::cut_pieces;
 use crate::large::first_large;
+use crate::reader::Reader;
 use hs_base::{List, Refusal, TEXT_BYTES};
 use std::alloc::Global;
 use std::marker::Model;
@@ -88,6 +89,15 @@ impl<'a> Pieces<'a> {
         ensures cut { IsCut self.now.bytes self.now.pieces }
     {
         self.pieces.as_slice()
+    }
+
+    /// A reader of the pieces from that number on.
+    pub fn reader(&self, from: u32) -> Reader<'_>
+        ensures { result ≡ spellings self.now.bytes (drop from self.now.pieces) }
+    {
+        let pieces = self.as_slice();
+        let (_, rest) = pieces.split_at(pieces.len().min(from as usize));
+        Reader::new(self.text, rest)
     }
 
     /// The place of the piece of that number, or the length of the text past the end.
