@@ -23,3 +23,6 @@ pub use pieces::Pieces;
 pub use reader::Reader;
 pub use reading::{read, read_front};
 pub use unread::Unread;
+
+#[cfg(test)]
+mod tests;

@@ -42,7 +42,6 @@ module _ (s : State) (law : IsLawful s) where
   abbrev c : ℕ
   c = points s
 
-
   -- a point that is barred may not be executed
   pub barred_may_not : (x : ℕ) (b : Bound) → x < c → Bars s x b → MayFire s x → ⊥
   barred_may_not x b ix bars may = bound_bars c s.net law.reduced at n law.reached x ix bars.0 may
@@ -70,8 +69,7 @@ module _ (s : State) (law : IsLawful s) where
         let apart : n <ℤ (t +ℤ p.offset) = elim (cases_sign (n -ℤ (t +ℤ p.offset))) [
           | inl up ↦ absurd (other (omega (arith, ints, up, is, later)))
           | inr down ↦ omega (arith, ints, down)
-        ] in
-        (
+        ] in (
           record {
             to = m.point.0;
             most = m.offset -ℤ p.offset;
@@ -94,8 +92,7 @@ module _ (s : State) (law : IsLawful s) where
           let up : pos 0 <ℤ p.offset = elim (cases_sign (pos 0 -ℤ p.offset)) [
             | inl low ↦ absurd (other (omega (arith, ints, low, me_within.0)))
             | inr high ↦ omega (arith, ints, high)
-          ] in
-          (
+          ] in (
             record {
               to = h.leader.0;
               most = pos 0 -ℤ p.offset;
@@ -121,8 +118,7 @@ module _ (s : State) (law : IsLawful s) where
         let self : Member = record { point = h.leader; offset = pos 0 } in
         let i_self = contains_from (stands h) self (inl refl) in
         let o = offset_within c s.net law.reduced h self ih i_self in
-        let w : (leads.edge.most +ℤ pos 0) -ℤ pos 0 ≡ next.most = omega (arith, ints, leads.most) in
-        (
+        let w : (leads.edge.most +ℤ pos 0) -ℤ pos 0 ≡ next.most = omega (arith, ints, leads.most) in (
           record {
             to = h.leader.0;
             most = next.most;
@@ -139,8 +135,7 @@ module _ (s : State) (law : IsLawful s) where
         let h : Group = get_or s.net.groups next.group d in
         let ih : Contains s.net.groups h = Contains-get_or s.net.groups next.group d leads.within in
         let o = offset_within c s.net law.reduced h m ih (known.stands d) in
-        let w : (leads.edge.most +ℤ m.offset) -ℤ pos 0 ≡ next.most +ℤ m.offset = omega (arith, ints, leads.most) in
-        (
+        let w : (leads.edge.most +ℤ m.offset) -ℤ pos 0 ≡ next.most +ℤ m.offset = omega (arith, ints, leads.most) in (
           record {
             to = m.point.0;
             most = next.most +ℤ m.offset;
@@ -176,13 +171,13 @@ module _ (s : State) (law : IsLawful s) where
       let jn = joined c s.net law.reduced in
       let leader : leader_at s.net i ≡ g.leader.0 = leader_is c s.net law.reduced i d stand.within in
       let may = (fire c s.net at n law.reduced law.reached g ig (unset d)).1 (λ e ie from neg.
-          let at_to = stands_at (leaders_of s.net.groups) e.to.0 jn.leaders (jn.edges e ie).to in
-          let j : ℕ = place_of (leaders_of s.net.groups) e.to.0 in
-          let jj : j < length s.net.groups = omega (arith, at_to.within, length-map s.net.groups (λ (z : Group). z.leader.0)) in
-          let next : Neighbour = record { group = j; most = e.most } in
-          let r = (lets next (after_has (leaders_of s.net.groups) s.net.edges jn.leaders (leader_at s.net i) e ie (from ∙ sym leader))).lets neg d in
-          let there : leader_times s.net.groups at e.to.0 ≡ Some r.0 = ap (leader_times s.net.groups at) (sym at_to.is) ∙ lookup_at s.net.groups (map (group_time at) s.net.groups) j jn.leaders jj ∙ get_or-map (group_time at) s.net.groups j d None jj ∙ r.1 in
-          record { at = r.0; set = there; gone = r.2 }) in
+      let at_to = stands_at (leaders_of s.net.groups) e.to.0 jn.leaders (jn.edges e ie).to in
+      let j : ℕ = place_of (leaders_of s.net.groups) e.to.0 in
+      let jj : j < length s.net.groups = omega (arith, at_to.within, length-map s.net.groups (λ (z : Group). z.leader.0)) in
+      let next : Neighbour = record { group = j; most = e.most } in
+      let r = (lets next (after_has (leaders_of s.net.groups) s.net.edges jn.leaders (leader_at s.net i) e ie (from ∙ sym leader))).lets neg d in
+      let there : leader_times s.net.groups at e.to.0 ≡ Some r.0 = ap (leader_times s.net.groups at) (sym at_to.is) ∙ lookup_at s.net.groups (map (group_time at) s.net.groups) j jn.leaders jj ∙ get_or-map (group_time at) s.net.groups j d None jj ∙ r.1 in
+      record { at = r.0; set = there; gone = r.2 }) in
       ((member_law c s.net at n law.reduced law.reached g (member x (pos 0)) ig (stand.stands d) (unset d)).1).1 (refl, may)
 
 -- numbers that fit

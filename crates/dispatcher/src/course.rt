@@ -47,7 +47,13 @@ impl Model for Course {
 impl Course {
     /// Begins at a time with the executed points, on a reduced network in which each point is marked
     /// as observed or not. It takes all memory that later calls need.
-    pub fn begin(alloc: Global, net: Net, observed: List<bool>, times: &[Time], now: i64) -> Result<Course, Memory>
+    pub fn begin(
+        alloc: Global,
+        net: Net,
+        observed: List<bool>,
+        times: &[Time],
+        now: i64,
+    ) -> Result<Course, Memory>
         requires reduced { IsReducedOf (length observed) (spread net) net }
         requires once { EachOnce times.now }
         requires reached { IsReached (length observed) net (time_at times.now) now }
@@ -58,7 +64,13 @@ impl Course {
         let times = times_by_point(alloc, count, times)?;
         let places = places(alloc, count, &net)?;
         let mut windows = Windows::fresh(alloc, &net)?;
-        let known = set_groups(alloc, &net, places.as_slice(), times.as_slice(), &mut windows)?;
+        let known = set_groups(
+            alloc,
+            &net,
+            places.as_slice(),
+            times.as_slice(),
+            &mut windows,
+        )?;
         let until = waits_of(alloc, &windows, places.as_slice(), times.as_slice())?;
         Ok(Course {
             net,
@@ -126,7 +138,11 @@ impl Course {
         if self.windows.time(place.group).is_none() {
             self.windows.set(&self.net, place.group, self.tick);
             self.known[place.group as usize] = p;
-            wait_group(&self.net.groups[place.group as usize], self.tick, &mut self.until);
+            wait_group(
+                &self.net.groups[place.group as usize],
+                self.tick,
+                &mut self.until,
+            );
         }
         self.until.set(p.0 as usize, NEVER);
     }
@@ -135,9 +151,7 @@ impl Course {
     pub fn limit(&self) -> i64
         ensures { MayGoOn self.now ↔ (self.now.tick <ℤ result) }
     {
-        self.windows
-            .least_high(&self.net)
-            .min(self.until.least())
+        self.windows.least_high(&self.net).min(self.until.least())
     }
 
     /// Takes a tick.

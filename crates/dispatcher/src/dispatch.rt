@@ -35,7 +35,13 @@ impl Model for Dispatch {
 impl Dispatch {
     /// Begins at a time with the executed points, on a reduced network in which each point is marked
     /// as observed or not. It takes all memory that later calls need.
-    pub fn begin(alloc: Global, net: Net, observed: List<bool>, times: &[Time], now: i64) -> Result<Dispatch, Memory>
+    pub fn begin(
+        alloc: Global,
+        net: Net,
+        observed: List<bool>,
+        times: &[Time],
+        now: i64,
+    ) -> Result<Dispatch, Memory>
         requires reduced { IsReducedOf (length observed) (spread net) net }
         requires once { EachOnce times.now }
         requires reached { IsReached (length observed) net (time_at times.now) now }

@@ -11,7 +11,13 @@ use hs_base::{Bound, PointId};
 use local_propagate::Windows;
 
 /// The set leader from which an edge holds its second end at `now`, where that end isn't set.
-fn holder(edge: Bound, windows: &Windows, places: &[Place], now: i64, marks: &[Option<PointId>]) -> Option<PointId>
+fn holder(
+    edge: Bound,
+    windows: &Windows,
+    places: &[Place],
+    now: i64,
+    marks: &[Option<PointId>],
+) -> Option<PointId>
     requires edge { IsEdge (length marks.now) edge }
     requires timed { AreTimed (length marks.now) windows.now places.now }
     ensures { result ≡ holder (leader_time windows.now places.now) now marks.now edge }
@@ -28,7 +34,14 @@ fn holder(edge: Bound, windows: &Windows, places: &[Place], now: i64, marks: &[O
 }
 
 /// Marks what an edge holds at `now`, and says whether that is new.
-fn mark_end(edges: &[Bound], i: usize, windows: &Windows, places: &[Place], now: i64, marks: &mut [Option<PointId>]) -> bool
+fn mark_end(
+    edges: &[Bound],
+    i: usize,
+    windows: &Windows,
+    places: &[Place],
+    now: i64,
+    marks: &mut [Option<PointId>],
+) -> bool
     requires i_in { i < length edges.now }
     requires edges { All (IsEdge (length marks.old)) edges.now }
     requires timed { AreTimed (length marks.old) windows.now places.now }
@@ -49,7 +62,13 @@ fn mark_end(edges: &[Bound], i: usize, windows: &Windows, places: &[Place], now:
 }
 
 /// One turn over the edges.
-fn mark_turn(edges: &[Bound], windows: &Windows, places: &[Place], now: i64, marks: &mut [Option<PointId>]) -> bool
+fn mark_turn(
+    edges: &[Bound],
+    windows: &Windows,
+    places: &[Place],
+    now: i64,
+    marks: &mut [Option<PointId>],
+) -> bool
     requires edges { All (IsEdge (length marks.old)) edges.now }
     requires timed { AreTimed (length marks.old) windows.now places.now }
     requires sound { AreSound edges.now (leader_time windows.now places.now) now marks.old }
@@ -67,7 +86,13 @@ fn mark_turn(edges: &[Bound], windows: &Windows, places: &[Place], now: i64, mar
 }
 
 /// Marks the unset leaders that are forced at `now`, each with the set leader that it comes from.
-pub fn mark(edges: &[Bound], windows: &Windows, places: &[Place], now: i64, marks: &mut [Option<PointId>])
+pub fn mark(
+    edges: &[Bound],
+    windows: &Windows,
+    places: &[Place],
+    now: i64,
+    marks: &mut [Option<PointId>],
+)
     requires edges { All (IsEdge (length marks.old)) edges.now }
     requires timed { AreTimed (length marks.old) windows.now places.now }
     ensures { AreMarked edges.now (leader_time windows.now places.now) now marks.new }

@@ -64,8 +64,8 @@ unknown_in_point m _ = []
 abbrev pub unknown_in_token : Mission → WrittenKind → List (List ℕ)
 unknown_in_token m k =
     elim (find (λ (v : Var). bytes_eq k.sv v.name) m.vars) [
-    | None ↦ k.sv ∷ []
-    | Some var ↦ unknown_in (map (λ (v : Value). v.name) var.values) k.value
+      | None ↦ k.sv ∷ []
+      | Some var ↦ unknown_in (map (λ (v : Value). v.name) var.values) k.value
     ]
 
 abbrev pub unknown_in_body : Mission → WrittenBody → List (List ℕ)

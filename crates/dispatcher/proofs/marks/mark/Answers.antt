@@ -13,4 +13,4 @@ returns c =
     let marks = c.mark_turn.new.marks in
     let sound : AreSound c.args.edges.now time c.args.now marks = rw now at r.sound in
     let met : All (IsMet time c.args.now marks) c.args.edges.now = rw now at (OnFalse_at c.turns-test.false r.met) in
-    record { sound = sound; all = λ e ie. All-contains (IsMet time c.args.now marks) c.args.edges.now e met ie; }
+    record { sound = sound; all = λ e ie. All-contains (IsMet time c.args.now marks) c.args.edges.now e met ie }
