@@ -1,15 +1,11 @@
-//! The texts of histories, written and read.
+//! The texts of histories.
 #![tactic(auto)]
 
 mod deeds;
 mod journal;
-mod noted;
 mod phases;
 mod progress;
-mod read_log;
 #[cfg(test)]
 mod tests;
 
 pub use journal::write;
-pub use noted::Noted;
-pub use read_log::read;

@@ -1,11 +1,10 @@
 ghost use Rattle.std.specs.Prelude.{◌≡◌, ◌+◌, ◌^◌, ◌<◌, IfOk};
 ghost use Rattle.hs_base.specs.State.{count_at};
 
-use crate::{read, write};
-use ddl_read::Pieces;
+use crate::write;
 use hs_base::{
-    Bound, Copies, Deed, Entry, Extension, Group, Kind, LAST, List, Memory, Mission, Name, Net,
-    PointId, Range, Refusal, SvId, Time, ValId, Value, Var,
+    Bound, Deed, Entry, Extension, Group, Kind, LAST, List, Memory, Mission, Name, Net, PointId,
+    Range, SvId, Time, ValId, Value, Var,
 };
 use std::alloc::Global;
 use std::test::Fail;
@@ -206,70 +205,5 @@ fn writes_a_stale_plan_and_a_failure(rt: HostRuntime) -> Result<(), Fail> {
     let lines =
         "hsts log 1\nhandover 1 at 0 groups 4 edges 7\nsince 0\ntoken a p\ntoken a q\ntoken c m\nclose\nreport a 0 at 2\nstale 2 at 2 bound c 1 to H 2 most -1 times 12 11\nsince 0\ntoken a p\ntoken c n\nclose\nhandover 2 at 2 groups 5 edges 9\nsince 2\nfix a 0 2\ntoken a p\ntoken c n\nclose\nlate a 0 to a 2 most 1 at 3\nstop failed at 3\n";
     assert_eq!(rt; text.as_bytes(), lines.as_bytes());
-    Ok(())
-}
-
-/// Each entry of the log, with its time and what its deed is.
-#[test]
-fn reads_a_log_back(rt: HostRuntime) -> Result<(), Fail> {
-    let mission = mission(rt.alloc())?;
-    let history = troubled(rt.alloc())?;
-    let text = write(rt.alloc(), &mission, history.as_slice())?;
-    let pieces = Pieces::cut(rt.alloc(), text.as_bytes())?;
-    let noted = read(rt.alloc(), &mission, &pieces, 0)?;
-    assert_eq!(rt; noted.len(), 5);
-    let mut entries = noted.as_slice().iter();
-    let mut told = history.iter().filter(|entry| entry.deed != Deed::Tick);
-    for at in [0i64, 2, 2, 2, 3] {
-        let entry = entries.next().ok_or("entry")?;
-        let deed = &told.next().ok_or("deed")?.deed;
-        assert_eq!(rt; entry.at, at);
-        if let Deed::Handover { extension, net } = deed {
-            assert_eq!(rt; entry.groups as usize, net.groups.len());
-            assert_eq!(rt; entry.edges as usize, net.edges.len());
-            let again = Deed::Handover {
-                extension: extension.copy(rt.alloc())?,
-                net: Net {
-                    groups: List::new(rt.alloc()),
-                    edges: List::new(rt.alloc()),
-                },
-            };
-            assert!(rt; entry.what == again);
-        } else {
-            assert!(rt; entry.what == *deed);
-        }
-    }
-    Ok(())
-}
-
-#[test]
-fn refuses_points_that_a_log_has_not(rt: HostRuntime) -> Result<(), Fail> {
-    let mission = mission(rt.alloc())?;
-    for (text, at) in [
-        (
-            "hsts log 1 handover 1 at 0 groups 1 edges 0 since 0 token a p token c m close fire a 1 at 1 stop running at 1",
-            83u32,
-        ),
-        (
-            "hsts log 1 handover 1 at 0 groups 1 edges 0 since 0 token a p token c m close horizon 2 at 1 stop running at 1",
-            86u32,
-        ),
-        (
-            "hsts log 1 handover 1 at 0 groups 1 edges 0 since 0 token a p token c m close late H 2 to a 0 most 1 at 1 stop failed at 1",
-            83u32,
-        ),
-        (
-            "hsts log 1 handover 1 at 0 groups 1 edges 0 since 0 token a p token c m close stale 2 at 1 bound a 1 to a 0 most 1 times 0 1 since 0 token c n close stop running at 1",
-            97u32,
-        ),
-        (
-            "hsts log 1 handover 1 at 0 groups 1 edges 0 since 0 token a p token c m close stop over at 1",
-            15u32,
-        ),
-    ] {
-        let pieces = Pieces::cut(rt.alloc(), text.as_bytes())?;
-        let refused = read(rt.alloc(), &mission, &pieces, 0).err();
-        assert_eq!(rt; refused, Some(Refusal::Expected { at }), "{text}");
-    }
     Ok(())
 }
