@@ -1,10 +1,11 @@
--- What a trail holds: its first points, its parts in order, and a time for each point.
+-- Trails as their callers see them.
 use Rattle.std.specs.Prelude.{◌≡◌, ℕ, ◌+◌, List, [], ◌∷◌, ◌++◌, take, ℤ}
 use Rattle.hs_base.specs.declared.net.Bound.{Bound}
 use Rattle.hs_base.specs.Schedule.{MeetsList}
 use Rattle.stn_trail.specs.declared.part.Part.{Part}
 use Rattle.stn_trail.specs.declared.part.Part.TheVariants.{Grown, Added}
 
+-- the first points, the parts in order, and a time for each point
 pub record Held : Type 0 where
   pub first : ℕ
   pub parts : List Part
@@ -22,9 +23,11 @@ added [] = []
 added (Grown ∷ ps) = added ps
 added (Added b ∷ ps) = b ∷ added ps
 
+-- how many points there are
 abbrev pub points_of : Held → ℕ
 points_of t = t.first + grown t.parts
 
+-- the bounds, in the order in which they were added
 abbrev pub bounds_of : Held → List Bound
 bounds_of t = added t.parts
 

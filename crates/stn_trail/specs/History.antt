@@ -10,6 +10,7 @@ use Rattle.stn_trail.specs.Moves.{times_at}
 use Rattle.stn_trail.specs.Rows.{AreRowsOf}
 use Rattle.stn_trail.specs.Held.{grown, added}
 
+-- the parts of the steps
 abbrev pub parts_of : List Step → List Part
 parts_of steps = map (λ s. s.part) steps
 
