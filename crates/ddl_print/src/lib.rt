@@ -1,0 +1,13 @@
+//! The one text in which a mission is printed.
+#![tactic(auto)]
+
+mod horizons;
+mod missions;
+mod needs;
+mod parts;
+mod scripts;
+#[cfg(test)]
+mod tests;
+mod values;
+
+pub use missions::print;
