@@ -8,3 +8,4 @@ pub mod FiringLemmas
 pub mod InsideLemmas
 pub mod TieLemmas
 pub mod MarkedLemmas
+pub mod HoldingLemmas

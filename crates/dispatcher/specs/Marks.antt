@@ -1,14 +1,17 @@
 -- Marks of leaders, by their point's number, each with the set leader that it comes from.
-use Rattle.std.specs.Prelude.{◌≡◌, ℕ, ◌<◌, cond, ℤ, pos, ◌+ℤ◌, ◌≤ℤ◌, neg_ℤ, true, List, length, get_or, Contains, Option, Some, None}
+use Rattle.std.specs.Prelude.{◌≡◌, ℕ, ◌<◌, cond, ℤ, pos, ◌+ℤ◌, ◌-ℤ◌, ◌≤ℤ◌, neg_ℤ, true, List, length, get_or, Contains, Option, Some, None}
 use Rattle.std.specs.Option.{is_some}
 use Rattle.hs_base.specs.declared.ids.PointId.{PointId}
 use Rattle.hs_base.specs.declared.limits.TheConstants.{LAST}
 use Rattle.hs_base.specs.declared.net.Bound.{Bound}
 use Rattle.hs_base.specs.Reduced.{int_eq}
-use Rattle.hs_base.specs.Fits.{Times}
-use Rattle.hs_base.specs.Dispatch.{MarkedFrom}
+use Rattle.hs_base.specs.Network.{spread}
+use Rattle.hs_base.specs.Schedule.{Tight}
+use Rattle.hs_base.specs.Fits.{Times, IsForced}
+use Rattle.hs_base.specs.Dispatch.{Marked, MarkedFrom, leader_times}
 use Rattle.local_propagate.specs.Windows.{time_of, times_of}
 use Rattle.local_propagate.specs.declared.windows.Windows.{Windows}
+use Rattle.dispatcher.specs.State.{State, points, time_in}
 use Rattle.dispatcher.specs.Places.{place_at}
 use Rattle.dispatcher.specs.Index.{IsWithin}
 use Rattle.dispatcher.specs.declared.places.Place.{Place}
@@ -54,3 +57,19 @@ pub record AreTimed (c : ℕ) (w : Windows) (places : List Place) : Type 0 where
   pub size : length places ≡ c
   pub groups : (x : ℕ) → x < c → (place_at places x).group < length (times_of w)
   pub times : (x : ℕ) (t : ℤ) → leader_time w places x ≡ Some t → IsWithin t
+
+-- the forced leaders of a state, each with the set leader that it comes from
+pub record AreMarksOf (s : State) (marks : List (Option PointId)) : Type 0 where
+  pub points : length marks ≡ points s
+  pub sound : AreSound s.net.edges (leader_times s.net.groups (time_in s)) s.tick marks
+  pub all : (u : ℕ) → Marked s.net.edges (leader_times s.net.groups (time_in s)) s.tick u → is_some (get_or marks u None) ≡ true
+
+-- every fitting schedule gives the point now
+abbrev pub Forced : State → ℕ → Type 0
+Forced s x = IsForced (points s) (spread s.net) (time_in s) s.tick x
+
+-- a tight bound from the executed point q holds x at now
+pub record IsHeldBy (s : State) (x q : ℕ) : Type 0 where
+  pub at : ℤ
+  pub executed : time_in s q ≡ Some at
+  pub tight : Tight (spread s.net) q x (s.tick -ℤ at)

@@ -1,4 +1,4 @@
-ghost use Rattle.std.specs.Prelude.{◌≡◌, ◌↔◌, ◌<◌, ◌≤ℤ◌, ◌<ℤ◌, ℕ, ℤ, pos, length, slice_index_or, None, Some, IsTrue, IsOk, IfOk, IfErr, IfSome, IfNone, IsNone, MatchOption, MatchResult};
+ghost use Rattle.std.specs.Prelude.{◌≡◌, ◌↔◌, ◌<◌, ◌≤ℤ◌, ◌<ℤ◌, ℕ, ℤ, pos, true, length, slice_index_or, None, Some, IsTrue, IsOk, IfOk, IfErr, IfSome, IfNone, IsNone, MatchOption, MatchResult};
 ghost use Rattle.hs_base.specs.declared.limits.TheConstants.{LAST};
 ghost use Rattle.hs_base.specs.Network.{spread};
 ghost use Rattle.hs_base.specs.Reduced.{IsReducedOf};
@@ -7,9 +7,11 @@ ghost use Rattle.hs_base.specs.declared.net.Group.{Group};
 ghost use Rattle.hs_base.specs.Dispatch.{IsReached, group_time};
 ghost use Rattle.dispatcher.specs.Places.{StandsAt};
 ghost use Rattle.dispatcher.specs.Edges.{IsKnownIn, IsSetAt, LeadsTo, LetsFire};
-ghost use Rattle.dispatcher.specs.State.{IsLawful, IsOpen, IsLeastTied, IsTiedTo, MayFire, MayGoOn, MustFire, IsInTime, IsLate, Bars, begun, fired, points, ticked, time_in};
+ghost use Rattle.dispatcher.specs.State.{IsLawful, IsOpen, IsLeastTied, IsTiedTo, MayFire, MayGoOn, MustFire, IsInTime, IsLate, Bars, begun, fired, is_observed, points, ticked, time_in};
+ghost use Rattle.dispatcher.specs.Marks.{AreMarksOf, Forced, IsHeldBy};
 
 use crate::groups::set_groups;
+use crate::marks::mark;
 use crate::places::{Place, places};
 use crate::times::times_by_point;
 use crate::waits::{wait_group, waits_of};
@@ -154,6 +156,14 @@ impl Course {
         self.windows.least_high(&self.net).min(self.until.least())
     }
 
+    /// Whether the time may go on: some schedule that fits gives every open point a later time.
+    pub fn may_tick(&self) -> bool
+        ensures may { IsTrue result ↔ MayGoOn self.now }
+        ensures state { IsLawful self.now }
+    {
+        self.tick < self.limit()
+    }
+
     /// Takes a tick.
     pub fn advance(&mut self)
         requires open { (x : ℕ) × IsOpen self.old x }
@@ -161,6 +171,122 @@ impl Course {
         ensures { self.new ≡ ticked self.old }
     {
         self.tick += 1;
+    }
+
+    /// Marks the leaders that are forced now.
+    pub fn mark(&self, marks: &mut [Option<PointId>])
+        requires { length marks.old ≡ points self.now }
+        ensures { AreMarksOf self.now marks.new }
+    {
+        mark(self.net.edges.as_slice(), &self.windows, self.places.as_slice(), self.tick, marks);
+    }
+
+    /// A point that must be executed now.
+    pub fn must_fire(&self, marks: &[Option<PointId>]) -> Option<PointId>
+        requires { AreMarksOf self.now marks.now }
+        ensures { MatchOption result ((x : ℕ) → MustFire self.now x → ⊥) (λ q. MustFire self.now q.0) }
+    {
+        for x in 0..self.times.len() {
+            if self.is_due(x, marks) {
+                return Some(PointId(x as u32));
+            }
+        }
+        None
+    }
+
+    /// A tight bound to an open observed point that is forced now.
+    pub fn late(&self, marks: &[Option<PointId>]) -> Option<Bound>
+        requires { AreMarksOf self.now marks.now }
+        ensures { MatchOption result ((x : ℕ) → is_observed self.now x ≡ true → IsOpen self.now x → Forced self.now x → ⊥) (IsLate self.now) }
+    {
+        for x in 0..self.times.len() {
+            if let Some(bound) = self.late_at(x, marks) {
+                return Some(bound);
+            }
+        }
+        None
+    }
+
+    /// Whether a point must be executed now.
+    fn is_due(&self, x: usize, marks: &[Option<PointId>]) -> bool
+        requires x { x < points self.now }
+        requires marks { AreMarksOf self.now marks.now }
+        ensures { IsTrue result ↔ MustFire self.now x }
+    {
+        if self.observed[x] || self.times[x].is_some() {
+            return false;
+        }
+        match self.holder(x, marks) {
+            None => false,
+            Some(_) => self.tied(PointId(x as u32)).is_none(),
+        }
+    }
+
+    /// The bound that an open observed point would break after now.
+    fn late_at(&self, x: usize, marks: &[Option<PointId>]) -> Option<Bound>
+        requires x { x < points self.now }
+        requires marks { AreMarksOf self.now marks.now }
+        ensures { MatchOption result (is_observed self.now x ≡ true → IsOpen self.now x → Forced self.now x → ⊥) (IsLate self.now) }
+    {
+        if !self.observed[x] || self.times[x].is_some() {
+            return None;
+        }
+        match self.holder(x, marks) {
+            None => None,
+            Some(from) => match self.times[from.0 as usize] {
+                None => None,
+                Some(at) => Some(Bound {
+                    from,
+                    to: PointId(x as u32),
+                    most: self.tick - at,
+                }),
+            },
+        }
+    }
+
+    /// An executed point that holds an open one at now.
+    fn holder(&self, x: usize, marks: &[Option<PointId>]) -> Option<PointId>
+        requires open { IsOpen self.now x }
+        requires marks { AreMarksOf self.now marks.now }
+        ensures { MatchOption result (Forced self.now x → ⊥) (λ q. IsHeldBy self.now x q.0) }
+    {
+        let place = self.places[x];
+        match self.windows.time(place.group) {
+            Some(at) => self.holder_in_set(x, place, at),
+            None => self.holder_by_mark(x, place, marks),
+        }
+    }
+
+    /// The same of a point of a group that is set.
+    fn holder_in_set(&self, x: usize, place: Place, at: i64) -> Option<PointId>
+        requires place { StandsAt self.now.net x place }
+        requires set { IsSetAt self.now place.group at }
+        ensures { MatchOption result (Forced self.now x → ⊥) (λ q. IsHeldBy self.now x q.0) }
+    {
+        if self.tick == at + place.offset {
+            return Some(self.known_in(place.group as usize).point);
+        }
+        None
+    }
+
+    /// The same of a point of a group that isn't set.
+    fn holder_by_mark(&self, x: usize, place: Place, marks: &[Option<PointId>]) -> Option<PointId>
+        requires place { StandsAt self.now.net x place }
+        requires unset { (g : Group) → group_time (time_in self.now) (slice_index_or self.now.net.groups place.group g) ≡ None }
+        requires marks { AreMarksOf self.now marks.now }
+        ensures { MatchOption result (Forced self.now x → ⊥) (λ q. IsHeldBy self.now x q.0) }
+    {
+        let leader = self.net.groups[place.group as usize].leader;
+        if place.offset != 0 {
+            return None;
+        }
+        match marks[leader.0 as usize] {
+            None => None,
+            Some(origin) => {
+                let group = self.places[origin.0 as usize].group;
+                Some(self.known_in(group as usize).point)
+            }
+        }
     }
 
     /// Whether a point is tied to another one.

@@ -109,7 +109,7 @@ impl Dispatch {
         ensures may { IsTrue result ↔ MayGoOn self.old }
         ensures same { self.new ≡ self.old }
     {
-        self.course.now() < self.course.limit()
+        self.course.may_tick()
     }
 
     /// Takes a tick.
@@ -119,5 +119,35 @@ impl Dispatch {
         ensures { self.new ≡ ticked self.old }
     {
         self.course.advance();
+    }
+
+    /// A point that must be executed now: it is forced, not observed, and not tied to an open
+    /// observed point.
+    pub fn must_fire(&mut self) -> Option<PointId>
+        ensures due { MatchOption result ((x : ℕ) → MustFire self.old x → ⊥) (λ q. MustFire self.old q.0) }
+        ensures same { self.new ≡ self.old }
+    {
+        if self.course.may_tick() {
+            return None;
+        }
+        self.course.mark(self.marks.as_mut_slice());
+        self.course.must_fire(self.marks.as_slice())
+    }
+
+    /// Where no tick may be taken and no point must be executed: a tight bound to an open observed
+    /// point, which a tick would break.
+    pub fn late(&mut self) -> Option<Bound>
+        ensures late { IfSome result (IsLate self.old) }
+        ensures none { IsNone result ↔ IsInTime self.old }
+        ensures same { self.new ≡ self.old }
+    {
+        if self.course.may_tick() {
+            return None;
+        }
+        self.course.mark(self.marks.as_mut_slice());
+        match self.course.must_fire(self.marks.as_slice()) {
+            Some(_) => None,
+            None => self.course.late(self.marks.as_slice()),
+        }
     }
 }

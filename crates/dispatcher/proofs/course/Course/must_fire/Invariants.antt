@@ -1,0 +1,6 @@
+use Rattle.std.proofs.Common.{◌<◌, ℕ}
+use Rattle.dispatcher.specs.State.{MustFire}
+use Rattle.dispatcher.proofs.course.Course.must_fire.Given as goal
+
+abbrev pub invariant-loop-x : goal.invariant-loop-x
+invariant-loop-x l = (y : ℕ) → y < l.x → MustFire l.self y → ⊥
