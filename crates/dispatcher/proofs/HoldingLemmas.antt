@@ -112,7 +112,7 @@ module _ (s : State) (law : IsLawful s) where
   -- an answer of no bound says that the state is in time
   pub late_answers : (r : Option Bound) → (MayGoOn s → ⊥) → ((x : ℕ) → MustFire s x → ⊥) → MatchOption r ((x : ℕ) → is_observed s x ≡ true → IsOpen s x → Forced s x → ⊥) (IsLate s) → IsNone r ↔ IsInTime s
   late_answers None stops none free = (λ _. inl (in_time none free), λ _. refl)
-  late_answers (Some b) stops none late = (λ e. absurd (cc), λ t. absurd (elim t [ | inl may ↦ stops may | inr due ↦ none due.0 due.1 ]))
+  late_answers (Some b) stops none late = (λ e. absurd (cc), λ t. absurd (elim t [ inl may ↦ stops may | inr due ↦ none due.0 due.1 ]))
 
   -- a forced point that is not observed is due where no point is tied to it
   pub due_from : (x : ℕ) → IsOpen s x → Forced s x → is_observed s x ≡ false → ((y : ℕ) → IsTiedTo s x y → ⊥) → MustFire s x

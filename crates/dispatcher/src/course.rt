@@ -178,7 +178,13 @@ impl Course {
         requires { length marks.old ≡ points self.now }
         ensures { AreMarksOf self.now marks.new }
     {
-        mark(self.net.edges.as_slice(), &self.windows, self.places.as_slice(), self.tick, marks);
+        mark(
+            self.net.edges.as_slice(),
+            &self.windows,
+            self.places.as_slice(),
+            self.tick,
+            marks,
+        );
     }
 
     /// A point that must be executed now.

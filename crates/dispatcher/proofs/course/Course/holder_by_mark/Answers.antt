@@ -73,7 +73,7 @@ returns-in-Some c =
     let are : ArePlaces (points s) s.net d.places.items = subst (λ (z : State). ArePlaces (points z) z.net d.places.items) c.self.view_is c.self.invariant.places in
     let read : g ≡ get_or s.net.groups c.args.place.group g = c.index.ensures ∙ ap (λ (z : State). get_or z.net.groups c.args.place.group g) c.self.view_is in
     let mark : MarkedFrom s.net.edges (leader_times s.net.groups (time_in s)) s.tick q (get_or s.net.groups c.args.place.group g).leader.0 =
-        subst (λ (z : Group). MarkedFrom s.net.edges (leader_times s.net.groups (time_in s)) s.tick q z.leader.0) read (c.requires.marks.sound.each g.leader.0 c.in-Some.origin c.in-Some.is) in
+    subst (λ (z : Group). MarkedFrom s.net.edges (leader_times s.net.groups (time_in s)) s.tick q z.leader.0) read (c.requires.marks.sound.each g.leader.0 c.in-Some.origin c.in-Some.is) in
     let o = origin_is s law d.places.items are q (get_or s.net.groups c.args.place.group g).leader.0 mark in
     let iq : q < length d.times.items = subst (λ (z : State). q < points z) (sym c.self.view_is) o.below in
     let place = place_read d c.self.invariant q c.index-in-Some.result.now iq c.index-in-Some.ensures in

@@ -49,6 +49,6 @@ returns-in-Some-index c =
     let there = c.args.self.now in
     let late = held_late there (subst IsLawful c.self.view_is k.state) x q h (ap (λ (z : State). is_observed z x) (sym c.self.view_is) ∙ watched) (ap (λ (z : State). time_in z x) (sym c.self.view_is) ∙ none) in
     let most : there.tick -ℤ h.at ≡ to_z w64 (of_z w64 (to_z w64 (of_z w64 d.tick) -ℤ to_z w64 (of_z w64 c.in-Some-index.at))) =
-        ap (λ z. there.tick -ℤ z) same_at ∙ ap (λ (z : State). z.tick -ℤ c.in-Some-index.at) (sym c.self.view_is)
-        ∙ sym (rw (to_z-of_z w64 d.tick (tick_fits d k), to_z-of_z w64 c.in-Some-index.at f) (to_z-of_z w64 (d.tick -ℤ c.in-Some-index.at) g)) in
+    ap (λ z. there.tick -ℤ z) same_at ∙ ap (λ (z : State). z.tick -ℤ c.in-Some-index.at) (sym c.self.view_is)
+    ∙ sym (rw (to_z-of_z w64 d.tick (tick_fits d k), to_z-of_z w64 c.in-Some-index.at f) (to_z-of_z w64 (d.tick -ℤ c.in-Some-index.at) g)) in
     subst (λ z. IsLate there (bound q x z)) most late
