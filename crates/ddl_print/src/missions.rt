@@ -1,5 +1,8 @@
-ghost use Rattle.std.specs.Prelude.{◌≡◌, IfOk};
+ghost use Rattle.std.specs.Prelude.{◌≡◌, ◌≤◌, ℕ, List, length, IfOk};
+ghost use Rattle.hs_base.specs.declared.ast.Ast.{Ast as AstOf};
+ghost use Rattle.hs_base.specs.declared.limits.TheConstants.{TEXT_BYTES};
 ghost use Rattle.hs_base.specs.CanonicalText.{canonical};
+ghost use Rattle.hs_base.specs.MissionSpelling.{Spells};
 
 use crate::horizons::push_horizons;
 use crate::needs::push_needs;
@@ -10,8 +13,15 @@ use std::alloc::Global;
 
 /// The canonical text of a mission: a clause a line, numbers without leading zeros, and neither the
 /// range `[0,inf]` of a goal nor the script `until done`. Sorts, parameters and arguments are left out.
+///
+/// What is printed is read back: where some text spells the mission, the one that is printed spells
+/// it, unless it is longer than [`hs_base::TEXT_BYTES`], and it spells no other.
 pub fn print(alloc: Global, ast: &Ast) -> Result<Text, Memory>
-    ensures { IfOk result (λ text. text ≡ canonical ast.now) }
+    ensures canonical { IfOk result (λ text. text ≡ canonical ast.now) }
+    ensures spelled { (bytes : List ℕ) → Spells bytes ast.now
+        → IfOk result (λ text. length text ≤ TEXT_BYTES → Spells text ast.now) }
+    ensures alone { (bytes : List ℕ) (b : AstOf) → Spells bytes ast.now
+        → IfOk result (λ text. Spells text b → b ≡ ast.now) }
 {
     let mut text = Text::new(alloc);
     text.push_bytes(b"hsts ")?;

@@ -2,8 +2,6 @@
 use Rattle.std.specs.Prelude.{◌≡◌, ℕ, ◌+◌, ◌≤◌, cond, ℤ, pos, ◌+ℤ◌, List, [], ◌∷◌, map, take, drop, length}
 use Rattle.std.specs.List.{AllByRecursion}
 use Rattle.hs_base.specs.declared.limits.TheConstants.{LAST}
-use Rattle.hs_base.specs.declared.refusal.Refusal.{Refusal}
-use Rattle.hs_base.specs.declared.refusal.Refusal.TheVariants.{Memory}
 use Rattle.hs_base.specs.Pieces.{Placed, number_of, is_large}
 use Rattle.hs_base.specs.Pieces.{Piece as Spelling, word, number, symbol}
 use Rattle.ddl_read.specs.declared.piece.Piece.{Piece}
@@ -55,8 +53,3 @@ IsSmall text p = (p.place + p.length ≤ length text) × IsSmallNumber p.kind (b
 
 abbrev pub AreSpelled : List ℕ → List Piece → Type 0
 AreSpelled text ps = AllByRecursion (IsSmall text) ps
-
--- a refusal that the condition allows, or the want of memory
-abbrev pub OrMemory : (Refusal → Type 0) → Refusal → Type 0
-OrMemory P Memory = Unit {0}
-OrMemory P r = P r

@@ -1,5 +1,5 @@
 ghost use Rattle.std.specs.Prelude.{◌≡◌, ◌<◌, ◌^◌, length, IfOk, IfErr};
-ghost use Rattle.ddl_read.specs.Spelled.{OrMemory};
+ghost use Rattle.text_laws.specs.Refused.{OrMemory};
 ghost use Rattle.ddl_read.specs.Cutting.{AreAll, IsCharRefusal};
 
 use crate::Piece;

@@ -1,7 +1,8 @@
 ghost use Rattle.std.specs.Prelude.{◌≡◌, ◌<◌, ◌^◌, length, map, drop, slice_get, OnOk, IfErr, MatchResult};
 ghost use Rattle.std.specs.Str.{IsUtf8};
 ghost use Rattle.hs_base.specs.Pieces.{IsCutRefusal, place_in};
-ghost use Rattle.ddl_read.specs.Spelled.{OrMemory, placed, spellings};
+ghost use Rattle.text_laws.specs.Refused.{OrMemory};
+ghost use Rattle.ddl_read.specs.Spelled.{placed, spellings};
 ghost use Rattle.ddl_read.specs.Cutting.{IsCut, IsUtf8Refusal};
 
 use crate::Piece;

@@ -1,6 +1,6 @@
 ghost use Rattle.std.specs.Prelude.{◌≡◌, ◌+◌, ◌≤◌, length, MatchResult};
 ghost use Rattle.hs_base.specs.MissionSpelling.{Spells, SpellsFront, IsFrontRefusal, IsReadRefusal};
-ghost use Rattle.ddl_read.specs.Spelled.{OrMemory};
+ghost use Rattle.text_laws.specs.Refused.{OrMemory};
 
 use crate::Pieces;
 use crate::reader::Reader;

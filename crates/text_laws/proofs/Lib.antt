@@ -8,3 +8,12 @@ pub mod MissionLemmas
 pub mod PieceLemmas
 pub mod AnswerLemmas
 pub mod RefusalLemmas
+pub mod WrittenLemmas
+pub mod WritesLemmas
+pub mod PrintedLemmas
+pub mod WritableLemmas
+pub mod PlanPrintedLemmas
+pub mod PlanMeaningLemmas
+pub mod PlanSpellingLemmas
+pub mod LogPrintedLemmas
+pub mod LogSpellingLemmas
