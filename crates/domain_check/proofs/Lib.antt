@@ -1,0 +1,11 @@
+pub mod EachLemmas
+pub mod LoopLemmas
+pub mod NumberLemmas
+pub mod MeaningLemmas
+pub mod DifferLemmas
+pub mod AcceptedLemmas
+pub mod RisingLemmas
+pub mod WordLemmas
+pub mod AcceptanceLemmas
+pub mod RefusedLemmas
+pub mod RuleLemmas

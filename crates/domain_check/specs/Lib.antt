@@ -1,0 +1,4 @@
+pub mod Checking
+pub mod Rules
+pub mod Numbering
+pub mod Tables
