@@ -1,2 +1,15 @@
 pub mod WalkLemmas
 pub mod NamedLemmas
+pub mod OnwardLemmas
+pub mod SeriesLemmas
+pub mod PlanReadLemmas
+pub mod LoopLemmas
+pub mod SizeLemmas
+pub mod ReadingLemmas
+pub mod NumbersLemmas
+pub mod NamingLemmas
+pub mod PlanLemmas
+pub mod OneAnswerLemmas
+pub mod CountLemmas
+pub mod MeaningLemmas
+pub mod PlanAnswerLemmas

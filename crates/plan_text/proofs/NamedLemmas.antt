@@ -1,17 +1,13 @@
 -- The numbers of points, and the points of a further extension.
-use Rattle.std.proofs.Common.{◌≡◌, ◌≢◌, ℕ, zero, suc, take, count_by, slice_get, Some, None, add-zero, ◌+◌, ◌<◌, ◌≤◌, ◌^◌, Bool, true, false, cond, nat_eq, List, [], ◌∷◌, ◌++◌, length, filter, map, fold, get_or, set, slice_index, slice_set, refl, sym, ap, ◌∙◌, arith, append_assoc, inl, inr}
-use Rattle.std.proofs.lemmas.Bool.{cases_eq}
+use Rattle.std.proofs.Common.{◌≡◌, ℕ, zero, suc, take, count_by, slice_get, Some, None, add-zero, ◌+◌, ◌<◌, ◌≤◌, ◌^◌, Bool, true, false, cond, nat_eq, List, [], ◌∷◌, ◌++◌, length, filter, map, fold, get_or, set, slice_index, slice_set, refl, sym, ap, ◌∙◌, arith, append_assoc, inl, inr}
 use Rattle.std.proofs.lemmas.Bool.Decides.{eqb_tells}
-use Rattle.std.proofs.lemmas.List.{append-nil, map-append, length-append, length-map, length_push, get_or-set_same, get_or-set_other}
+use Rattle.std.proofs.lemmas.List.{append-nil, map-append, length_push, get_or-set_same, get_or-set_other}
 use Rattle.std.proofs.lemmas.Option.{slice_get_past}
-use Rattle.std.proofs.lemmas.Grind.{flat_map-append}
 use Rattle.std.proofs.lemmas.List.Elements.{filter-append}
 use Rattle.std.proofs.lemmas.List.Sums.{count_by-le-length, length-filter}
-use Rattle.hs_base.specs.declared.plan.TokenRef.{TokenRef}
 use Rattle.hs_base.specs.declared.mission.Kind.{Kind}
 use Rattle.hs_base.specs.declared.plan.Extension.{Extension}
-use Rattle.hs_base.specs.Points.{Point, origin, horizon, ending, tokens_of, timeline_of, ref_after, refs_after, new_points, points_of, count}
-use Rattle.hs_base.specs.Walks.{join_after}
+use Rattle.hs_base.specs.Points.{Point, horizon, ending, tokens_of, timeline_of, new_points, points_of, count}
 use Rattle.plan_text.specs.Named.{named, is_horizon, ends, horizons_in, ends_in, Counts, CountsTokens, with_end, with_horizon, with_extension}
 use Rattle.plan_text.specs.declared.names.PointName.{PointName}
 use Rattle.plan_text.specs.declared.names.PointName.TheVariants.{Horizon, End}
@@ -20,11 +16,11 @@ use Rattle.base_laws.proofs.PointLemmas.{end_points, tokens-push, points-push, c
 use Rattle.plan_text.proofs.WalkLemmas.{length-join_after-take, take-next}
 
 -- 1 for a test that is passed
-abbrev number : Bool → ℕ
+abbrev pub number : Bool → ℕ
 number true = 1
 number false = 0
 
-length-cond : {X : Type 0} (b : Bool) (xs : List X) (x : X) → length (xs ++ cond b (x ∷ []) []) ≡ length xs + number b
+pub length-cond : {X : Type 0} (b : Bool) (xs : List X) (x : X) → length (xs ++ cond b (x ∷ []) []) ≡ length xs + number b
 length-cond true xs x = length_push xs x
 length-cond false xs x = ap length (append-nil xs) ∙ omega arith
 
@@ -63,7 +59,7 @@ pub map-with_horizon : (names : List PointName) (n : ℕ) → n ≡ horizons_in 
 map-with_horizon names n e = map-append named names (Horizon (n + 1) ∷ []) ∙ ap (λ k. map named names ++ horizon (k + 1) ∷ []) e
 
 -- a token's end is no horizon point
-horizons_in-push : (ps : List Point) (v i : ℕ) → horizons_in (ps ++ ending v i ∷ []) ≡ horizons_in ps
+pub horizons_in-push : (ps : List Point) (v i : ℕ) → horizons_in (ps ++ ending v i ∷ []) ≡ horizons_in ps
 horizons_in-push ps v i = ap length (filter-append is_horizon ps (ending v i ∷ []) ∙ append-nil (filter is_horizon ps))
 
 pub horizons_in-fold : (ps : List Point) (ks : List Kind) → horizons_in (fold with_end ps ks) ≡ horizons_in ps

@@ -1,6 +1,6 @@
 -- Lists that are read from the front, with one more element at their end.
-use Rattle.std.proofs.Common.{◌≡◌, ◌≤◌, ◌<◌, ◌+◌, ℕ, get_or, subst, ap, sym, ◌∙◌, zero, suc, length, take, arith, List, [], ◌∷◌, ◌++◌, refl, append_assoc}
-use Rattle.std.proofs.lemmas.List.{append-nil, length-append, take_more}
+use Rattle.std.proofs.Common.{◌≡◌, ◌≤◌, ◌<◌, ◌+◌, ℕ, get_or, subst, ap, sym, ◌∙◌, zero, suc, length, take, arith, List, [], ◌∷◌, ◌++◌, append_assoc}
+use Rattle.std.proofs.lemmas.List.{length-append, take_more}
 use Rattle.hs_base.specs.Walks.{join_after}
 use Rattle.base_laws.proofs.ListLemmas.{join_after-push}
 

@@ -1,18 +1,37 @@
-//! The texts of plans and networks, and the parts that other texts share with them.
+//! The texts of plans and networks, written and read, and the parts that other texts share with them.
 #![tactic(auto)]
 
 mod body;
+mod laws;
 mod names;
+mod naming;
 mod nets;
+mod numbers;
 mod parts;
 mod plans;
+mod read_body;
+mod read_plan;
+mod reader;
+mod reading;
+mod stop;
 #[cfg(test)]
 mod tests;
+mod written;
+mod written_plan;
 
 pub use body::push_body;
+pub use laws::{a_plan_text_has_one_answer, a_plan_text_spells_one_plan, plans_are_read};
 pub use names::{PointName, PointNames};
 pub use nets::{push_counts, write_net};
 pub use parts::{
     push_bound, push_bound_with, push_name, push_number, push_point, push_signed, push_variable,
 };
 pub use plans::{point_text, write};
+pub use read_plan::read;
+pub use reader::PlanReader;
+pub use stop::Stop;
+pub use written::{
+    WrittenBody, WrittenExtension, WrittenKind, WrittenPoint, WrittenSupport, WrittenTime,
+    WrittenToken,
+};
+pub use written_plan::WrittenPlan;

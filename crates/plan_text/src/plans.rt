@@ -1,7 +1,10 @@
-ghost use Rattle.std.specs.Prelude.{◌≡◌, ◌++◌, ◌^◌, ◌<◌, IfOk, OnOk};
+ghost use Rattle.std.specs.Prelude.{◌≡◌, ◌++◌, ◌^◌, ◌<◌, ◌≤◌, length, IfOk, OnOk};
+ghost use Rattle.hs_base.specs.declared.limits.TheConstants.{TEXT_BYTES};
 ghost use Rattle.hs_base.specs.Points.{Point, count, points_of};
 ghost use Rattle.hs_base.specs.PlanText.{extension_in, plan_text};
+ghost use Rattle.hs_base.specs.PlanSpelling.{PlanSpells};
 ghost use Rattle.hs_base.specs.Written.{point_text as text_of_point};
+ghost use Rattle.text_laws.specs.WritablePlans.{IsWritablePlan};
 
 use crate::PointNames;
 use crate::body::push_body;
@@ -24,9 +27,14 @@ fn push_extension(
 }
 
 /// The text of a plan. A name that the mission doesn't have is left out.
+///
+/// Where the plan's tokens, points and numbers are such that texts can name them, its text spells
+/// it, unless it is longer than [`hs_base::TEXT_BYTES`].
 pub fn write(alloc: Global, mission: &Mission, plan: &Plan) -> Result<Text, Memory>
     requires { count plan.now.extensions < 2 ^ 32 }
-    ensures { IfOk result (λ text. text ≡ plan_text mission.now plan.now.extensions) }
+    ensures text { IfOk result (λ text. text ≡ plan_text mission.now plan.now.extensions) }
+    ensures spelled { IsWritablePlan mission.now plan.now.extensions
+        → IfOk result (λ text. length text ≤ TEXT_BYTES → PlanSpells mission.now text 0 plan.now.extensions) }
 {
     let mut text = Text::new(alloc);
     let mut names = PointNames::new(alloc)?;

@@ -1,10 +1,11 @@
 ghost use Rattle.std.specs.Prelude.{◌≡◌, ◌^◌, ◌<◌, IfOk};
 ghost use Rattle.hs_base.specs.Points.{count};
 
-use crate::{point_text, write, write_net};
+use crate::{point_text, read, write, write_net};
+use ddl_read::Pieces;
 use hs_base::{
     Bound, Extension, Group, Kind, LAST, List, Member, Memory, Mission, Name, Net, Plan, PointId,
-    Range, Support, SvId, Time, TokenRef, ValId, Value, Var,
+    Range, Refusal, Same, Support, SvId, Time, TokenRef, ValId, Value, Var,
 };
 use std::alloc::Global;
 use std::test::Fail;
@@ -219,5 +220,65 @@ fn writes_the_network_of_the_camera_mission(rt: HostRuntime) -> Result<(), Fail>
     let lines =
         "hsts net 1\ngroups 7 edges 14\ngroup Z\nmember H 1 100\ngroup camera 0\ngroup camera 1\ngroup camera 2\ngroup attitude 0\ngroup attitude 1\ngroup attitude 2\nedge Z camera 0 40\nedge Z camera 2 1000000000\nedge Z attitude 0 30\nedge Z attitude 2 1000000000\nedge camera 0 Z -20\nedge camera 0 camera 1 5\nedge camera 0 attitude 0 -10\nedge camera 0 attitude 1 0\nedge camera 1 camera 0 -3\nedge camera 2 Z -101\nedge attitude 0 Z -1\nedge attitude 0 attitude 1 12\nedge attitude 1 attitude 0 -10\nedge attitude 2 Z -101\nend\n";
     assert_eq!(rt; text.as_bytes(), lines.as_bytes());
+    Ok(())
+}
+
+#[test]
+fn reads_what_it_writes(rt: HostRuntime) -> Result<(), Fail> {
+    let mission = camera(rt.alloc())?;
+    for plan in [camera_plan(rt.alloc())?, later_plan(rt.alloc())?] {
+        let text = write(rt.alloc(), &mission, &plan)?;
+        let pieces = Pieces::cut(rt.alloc(), text.as_bytes())?;
+        let again = read(rt.alloc(), &mission, &pieces, 0)?;
+        assert!(rt; again.same(&plan));
+    }
+    Ok(())
+}
+
+#[test]
+fn refuses_at_the_first_piece(rt: HostRuntime) -> Result<(), Fail> {
+    let mission = camera(rt.alloc())?;
+    for (text, refusal) in [
+        (
+            "hsts plan 1 extension 1 since 0 fix Z 0 close end",
+            Refusal::Expected { at: 36 },
+        ),
+        (
+            "hsts plan 1 extension 1 since 0 fix camera 0 3 close end",
+            Refusal::Expected { at: 36 },
+        ),
+        (
+            "hsts plan 1 extension 1 since 0 fix camera close end",
+            Refusal::Expected { at: 43 },
+        ),
+        (
+            "hsts plan 1 extension 0 since 0 close end",
+            Refusal::Expected { at: 22 },
+        ),
+        ("hsts plan 2 end", Refusal::Expected { at: 10 }),
+        (
+            "hsts plan 1 extension 1 since 0 goal 1 camera 0 close end",
+            Refusal::Expected { at: 37 },
+        ),
+        (
+            "hsts plan 1 extension 1 since 0 token lens idle close",
+            Refusal::Expected { at: 53 },
+        ),
+        ("hsts plan 1 end end", Refusal::Trailing { at: 16 }),
+    ] {
+        let pieces = Pieces::cut(rt.alloc(), text.as_bytes())?;
+        assert_eq!(rt;
+            read(rt.alloc(), &mission, &pieces, 0),
+            Err(refusal),
+            "{text}"
+        );
+    }
+    let text = "hsts plan 1 extension 1 since 0 token camera lens token lens idle close end";
+    let pieces = Pieces::cut(rt.alloc(), text.as_bytes())?;
+    let name = Name::from_bytes(rt.alloc(), b"lens")?;
+    assert_eq!(rt;
+        read(rt.alloc(), &mission, &pieces, 0),
+        Err(Refusal::Unknown { name })
+    );
     Ok(())
 }

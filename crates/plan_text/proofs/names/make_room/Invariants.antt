@@ -1,4 +1,4 @@
-use Rattle.std.proofs.Common.{◌≤◌, ◌<◌, ℕ, ◌≡◌, List, get_or, vec_len}
+use Rattle.std.proofs.Common.{◌≤◌, ◌<◌, ℕ, List, get_or, vec_len}
 use Rattle.hs_base.specs.declared.mission.Kind.{Kind}
 use Rattle.plan_text.proofs.names.make_room.Given as goal
 

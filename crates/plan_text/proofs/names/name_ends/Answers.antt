@@ -1,8 +1,8 @@
-use Rattle.std.proofs.Common.{◌≡◌, ℕ, ◌+◌, ◌<◌, ◌∷◌, [], ◌++◌, length, get_or, take, map, fold, ap, sym, ◌∙◌, arith, vec_len, slice_index}
+use Rattle.std.proofs.Common.{◌≡◌, get_or, take, map, ap, ◌∙◌, arith}
 use Rattle.std.proofs.lemmas.List.{get_or_read, length-map, take_more}
 use Rattle.std.proofs.lemmas.List.Sums.{fold_push}
 use Rattle.hs_base.specs.declared.mission.Kind.{Kind}
-use Rattle.plan_text.specs.Named.{named, with_end, ends_in}
+use Rattle.plan_text.specs.Named.{named, with_end}
 use Rattle.plan_text.proofs.NamedLemmas.{counts-with_end, ends_in-le, map-with_end}
 use Rattle.plan_text.proofs.names.name_ends.Goals as goal
 

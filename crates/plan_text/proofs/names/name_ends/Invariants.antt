@@ -1,4 +1,4 @@
-use Rattle.std.proofs.Common.{◌≡◌, ℕ, ◌+◌, List, take, map, fold, vec_len, vec_capacity}
+use Rattle.std.proofs.Common.{◌≡◌, ◌+◌, take, map, fold, vec_len, vec_capacity}
 use Rattle.plan_text.specs.Named.{named, with_end, CountsTokens}
 use Rattle.plan_text.proofs.names.name_ends.Given as goal
 

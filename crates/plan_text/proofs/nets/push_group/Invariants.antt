@@ -1,5 +1,4 @@
-use Rattle.std.proofs.Common.{◌≡◌, ◌++◌, flat_map, take, codes}
-use Rattle.hs_base.specs.Written.{point_in}
+use Rattle.std.proofs.Common.{◌≡◌, ◌++◌, flat_map, take}
 use Rattle.hs_base.specs.NetText.{member_line}
 use Rattle.plan_text.proofs.nets.push_group.Given as goal
 

@@ -1,7 +1,11 @@
-use Rattle.std.proofs.Common.{◌≡◌, ◌++◌, ◌∷◌, [], take, ap, codes}
+use Rattle.std.proofs.Common.{◌≡◌, ◌≤◌, ◌++◌, ◌∷◌, [], ℕ, List, length, take, ap, sym, subst, codes, arith}
+use Rattle.std.proofs.lemmas.Grind.{common_steps}
+use Rattle.hs_base.specs.declared.limits.TheConstants.{TEXT_BYTES}
 use Rattle.hs_base.specs.Points.{points_of}
 use Rattle.hs_base.specs.Walks.{join_after}
-use Rattle.hs_base.specs.PlanText.{extension_in, extension_text}
+use Rattle.hs_base.specs.PlanText.{extension_in, extension_text, plan_text}
+use Rattle.hs_base.specs.PlanSpelling.{PlanSpells}
+use Rattle.text_laws.proofs.PlanSpellingLemmas.{plan_spelled}
 use Rattle.plan_text.proofs.WalkLemmas.{join_after-next, take-next}
 use Rattle.plan_text.proofs.NamedLemmas.{fewer-next}
 use Rattle.plan_text.proofs.plans.write.Goals as goal
@@ -22,3 +26,10 @@ loop-extension-preserved c =
     join_after-next (extension_text m) (take i es) e (codes "hsts plan 1\n") c.loop-extension.text (extension_in m c.loop-extension.names e) c.push_extension.new.text c.loop-extension.invariant.1 c.in_ok-push_extension.ensures
     (ap (λ ps. extension_in m ps e) c.loop-extension.invariant.0) in
     rw next (names, text)
+
+pub returns-clause-spelled : goal.returns-clause-spelled
+returns-clause-spelled c = λ writable short.
+    let m = c.args.mission.now in
+    let es = c.args.plan.now.extensions in
+    let same : c.push_bytes-2.new.self ≡ plan_text m es = grind (arith, common_steps) in
+    subst (λ (t : List ℕ). length t ≤ TEXT_BYTES → PlanSpells m t 0 es) (sym same) (plan_spelled m es writable) short

@@ -1,7 +1,4 @@
-use Rattle.std.proofs.Common.{◌≡◌, ℕ, ◌+◌, ◌<◌, ◌∷◌, [], ◌++◌, length, map, fold, ap, sym, ◌∙◌, arith, vec_len, List}
-use Rattle.std.proofs.lemmas.List.{length-map}
-use Rattle.hs_base.specs.declared.plan.Extension.{Extension}
-use Rattle.hs_base.specs.Points.{points_of}
+use Rattle.std.proofs.Common.{◌≡◌, ◌+◌, ◌∷◌, [], ◌++◌, length, map, fold, ap, ◌∙◌, arith}
 use Rattle.plan_text.specs.Named.{named, with_end, with_horizon, with_extension}
 use Rattle.plan_text.specs.declared.names.PointName.TheVariants.{Horizon}
 use Rattle.plan_text.proofs.NamedLemmas.{horizons_in-le, map-with_horizon, counts-with_extension, with_extension-points_of}

@@ -1,8 +1,8 @@
-use Rattle.std.proofs.Common.{◌≡◌, ◌<◌, ◌+◌, ◌-◌, length, ap, sym, ◌∙◌, arith, map, slice_get, slice_index, Some}
-use Rattle.std.proofs.lemmas.List.{length-map, length_push}
+use Rattle.std.proofs.Common.{◌≡◌, ◌+◌, length, ap, sym, ◌∙◌, arith, map, slice_get, slice_index, Some}
+use Rattle.std.proofs.lemmas.List.{length-map}
 use Rattle.hs_base.specs.Points.{horizon}
-use Rattle.plan_text.specs.Named.{named, with_extension, with_horizon, horizons_in, ends_in, CountsTokens}
-use Rattle.plan_text.proofs.NamedLemmas.{horizons_in-le, ends_in-le, with_extension-front, with_extension-horizon, counts-with_horizon}
+use Rattle.plan_text.specs.Named.{named, with_extension, horizons_in}
+use Rattle.plan_text.proofs.NamedLemmas.{horizons_in-le, ends_in-le, with_extension-front, with_extension-horizon}
 use Rattle.plan_text.proofs.names.PointNames.get_with.Goals as goal
 
 pub returns-then-number-len : goal.returns-then-number-len

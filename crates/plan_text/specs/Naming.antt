@@ -1,0 +1,10 @@
+-- What the functions that look names up answer.
+use Rattle.std.specs.Prelude.{◌≡◌, ℕ, List, [], Result, Ok, Err}
+use Rattle.hs_base.specs.declared.refusal.Refusal.{Refusal}
+use Rattle.text_laws.specs.Refused.{OrMemory}
+use Rattle.plan_text.specs.PlanSpelling.{IsFirstUnknown}
+
+-- none of the names is unknown and the answer is what P says, or the refusal gives the first of them
+abbrev pub Resolves : {X : Type 0} → Result X Refusal → List (List ℕ) → (X → Type 0) → Type 0
+Resolves (Ok x) unknown P = (unknown ≡ []) × P x
+Resolves (Err r) unknown P = OrMemory (IsFirstUnknown unknown) r

@@ -1,0 +1,26 @@
+// The laws of reading plans.
+ghost use Rattle.std.specs.Prelude.{◌≡◌, ℕ, List, []};
+ghost use Rattle.hs_base.specs.declared.mission.Mission.{Mission};
+ghost use Rattle.hs_base.specs.declared.plan.Extension.{Extension};
+ghost use Rattle.hs_base.specs.declared.refusal.Refusal.{Refusal};
+ghost use Rattle.text_laws.specs.Reads.{Reads};
+ghost use Rattle.plan_text.specs.WrittenPlan.{PlanText};
+ghost use Rattle.plan_text.specs.PlanReading.{plan_at};
+ghost use Rattle.plan_text.specs.PlanSpelling.{PlanSpells, IsPlanRefusal};
+
+/// Plans are read from left to right: what is read is spelled, what is spelled is read, and
+/// reading stops at the first piece with which no plan goes on.
+pub fn plans_are_read()
+    ensures { (m : Mission) → Reads (PlanText m) (plan_at m) [] }
+{}
+
+/// A text spells one plan of a mission at most.
+pub fn a_plan_text_spells_one_plan()
+    ensures { (m : Mission) (bytes : List ℕ) (i : ℕ) (es fs : List Extension) → PlanSpells m bytes i es → PlanSpells m bytes i fs → es ≡ fs }
+{}
+
+/// A text spells a plan of a mission, or has one refusal.
+pub fn a_plan_text_has_one_answer()
+    ensures spelled { (m : Mission) (bytes : List ℕ) (i : ℕ) (es : List Extension) (r : Refusal) → PlanSpells m bytes i es → IsPlanRefusal m bytes i r → ⊥ }
+    ensures refused { (m : Mission) (bytes : List ℕ) (i : ℕ) (r s : Refusal) → IsPlanRefusal m bytes i r → IsPlanRefusal m bytes i s → r ≡ s }
+{}

@@ -1,0 +1,50 @@
+ghost use Rattle.std.specs.Prelude.{◌≡◌, ◌-◌, ◌≤◌, ◌<◌, ◌^◌, length, map, MatchResult};
+ghost use Rattle.hs_base.specs.Pieces.{place_in};
+ghost use Rattle.text_laws.specs.Refused.{OrMemory};
+ghost use Rattle.ddl_read.specs.Spelled.{placed};
+ghost use Rattle.plan_text.specs.PlanSpelling.{IsPlanText, IsTextRefusal};
+
+use crate::reader::PlanReader;
+use crate::stop::Stop;
+use crate::written::WrittenExtension;
+use ddl_read::Pieces;
+use hs_base::{List, Mission, Refusal};
+use std::alloc::Global;
+
+/// The place of the piece before the last `left` of so many pieces.
+fn place_before(pieces: &Pieces, count: usize, left: usize) -> u32
+    requires { (left ≤ count) × (count < 2 ^ 32) }
+    ensures { result ≡ place_in (length pieces.now.bytes) (map (placed pieces.now.bytes) pieces.now.pieces) (count - left) }
+{
+    pieces.place((count - left) as u32)
+}
+
+/// Reads a written plan from a piece on, to the end of the text.
+pub fn read_written(
+    alloc: Global,
+    mission: &Mission,
+    pieces: &Pieces,
+    from: u32,
+) -> Result<List<WrittenExtension>, Refusal>
+    ensures { MatchResult result (IsPlanText mission.now pieces.now.bytes from) (OrMemory (IsTextRefusal mission.now pieces.now.bytes from)) }
+{
+    let count = pieces.as_slice().len();
+    let mut reader = PlanReader::new(pieces.reader(from));
+    match reader.plan(alloc, mission) {
+        Ok(extensions) => {
+            if reader.left() > 0 {
+                return Err(Refusal::Trailing {
+                    at: place_before(pieces, count, reader.left()),
+                });
+            }
+            Ok(extensions)
+        }
+        Err(Stop::Text) => Err(Refusal::Expected {
+            at: place_before(pieces, count, reader.left()),
+        }),
+        Err(Stop::Pieces(size)) => Err(Refusal::Expected {
+            at: place_before(pieces, count, reader.left() + size as usize),
+        }),
+        Err(Stop::Memory) => Err(Refusal::Memory),
+    }
+}
