@@ -1,0 +1,39 @@
+-- Plans whose rules hold, and the schedules of their bounds.
+use Rattle.std.proofs.Common.{◌≡◌, ◌≢◌, ℕ, ◌<◌, List, [], length, get_or, refl, sym, ap, ◌∙◌, subst, arith}
+use Rattle.std.proofs.lemmas.Option.{slice_get-get_or}
+use Rattle.std.specs.Prelude.{neg_ℤ, ◌≤ℤ◌}
+use Rattle.std.specs.List.{AllByRecursion}
+use Rattle.hs_base.specs.declared.net.Bound.{Bound}
+use Rattle.hs_base.specs.declared.mission.Mission.{Mission}
+use Rattle.hs_base.specs.declared.plan.Extension.{Extension}
+use Rattle.hs_base.specs.declared.fault.Fault.{Fault}
+use Rattle.hs_base.specs.declared.fault.Fault.TheVariants.{Base, Limit as OverLimit, Order, Fixed, WrongSupport, Unsupported, Goal as NoGoal, Cycle, Memory as NoMemoryLeft}
+use Rattle.hs_base.specs.Walks.{EachAfter}
+use Rattle.hs_base.specs.Points.{count}
+use Rattle.hs_base.specs.Bounds.{bounds_of}
+use Rattle.hs_base.specs.Missions.{IsMission}
+use Rattle.hs_base.specs.Checked.{KeepsRules, Checked}
+use Rattle.base_laws.proofs.ListLemmas.{each_at}
+use Rattle.plan_laws.specs.Fit.{IsFit}
+use Rattle.plan_laws.proofs.FitLemmas.{bounds_fit}
+use Rattle.plan_laws.proofs.FaultLemmas.{no_cycle}
+use Rattle.stn_distance.specs.Ranges.{IsInRange}
+use Rattle.plan_check.specs.Scheduling.{IsCycleFault}
+
+-- the bounds are fit for a search
+pub bound_in_range : (m : Mission) (es : List Extension) (bs : List Bound) (points k : ℕ) (d : Bound) → IsMission m → EachAfter (KeepsRules m) [] es → bs ≡ bounds_of m es → points ≡ count es → k < length bs → IsInRange points (get_or bs k d)
+bound_in_range m es bs points k d h rules is size below =
+    let fit : IsFit (count es) (get_or bs k d) = each_at (IsFit (count es)) bs k (get_or bs k d) (subst (λ (l : List Bound). AllByRecursion (IsFit (count es)) l) (sym is) (bounds_fit m es h rules)) (slice_get-get_or bs k d below) in
+    record { from_below = omega (arith, fit.from, size); to_below = omega (arith, fit.to, size); low = fit.least; high = fit.most }
+
+-- a negative cycle excludes a checked plan
+pub cycle_excludes : (m : Mission) (es : List Extension) (f : Fault) → IsCycleFault m es f → f ≢ NoMemoryLeft → Checked m es → ⊥
+cycle_excludes m es (Cycle bs) h some c = no_cycle (bounds_of m es) bs c.schedule h c.meets
+cycle_excludes m es NoMemoryLeft h some c = absurd (some refl)
+cycle_excludes m es (Base g n) h some c = h
+cycle_excludes m es (OverLimit p t) h some c = h
+cycle_excludes m es (Order v p) h some c = h
+cycle_excludes m es (Fixed n) h some c = h
+cycle_excludes m es (WrongSupport n) h some c = h
+cycle_excludes m es (Unsupported v p n) h some c = h
+cycle_excludes m es (NoGoal n) h some c = h

@@ -1,0 +1,85 @@
+-- Which points an extension may fix.
+use Rattle.std.proofs.Common.{◌≡◌, ℕ, zero, suc, ◌+◌, ◌<◌, ◌≤◌, ◌^◌, false, true, Bool, ◌||◌, nat_eq, ℤ, pos, List, [], ◌∷◌, ◌++◌, length, take, get_or, refl, sym, ap, ◌∙◌, subst, arith, inl, inr, append-nil}
+use Rattle.std.proofs.lemmas.Int.{ints}
+use Rattle.std.proofs.lemmas.Bool.{cases_Bool, cases_lt}
+use Rattle.std.proofs.lemmas.List.{take_more, take_all}
+use Rattle.std.specs.Prelude.{flat_map, ◌≤ℤ◌}
+use Rattle.std.specs.List.{AllByRecursion, list_any}
+use Rattle.hs_base.specs.declared.limits.TheConstants.{LAST}
+use Rattle.hs_base.specs.declared.plan.Time.{Time}
+use Rattle.hs_base.specs.declared.plan.Extension.{Extension}
+use Rattle.hs_base.specs.declared.mission.Mission.{Mission}
+use Rattle.hs_base.specs.declared.fault.Fault.{Fault}
+use Rattle.hs_base.specs.declared.fault.Fault.TheVariants.{Fixed}
+use Rattle.hs_base.specs.Walks.{EachAfter}
+use Rattle.hs_base.specs.Ranges.{whole, InRange}
+use Rattle.hs_base.specs.Points.{count}
+use Rattle.hs_base.specs.Bounds.{is_fixed}
+use Rattle.hs_base.specs.Checked.{fixed_of, KeepsFixedAt, KeepsFixed}
+use Rattle.hs_base.specs.Faults.{IsSinceWrong, BeforeFixed, IsFault}
+use Rattle.base_laws.proofs.ListLemmas.{each_weaker, each_both}
+use Rattle.plan_check.specs.Fixing.{AreFlags, MayFix}
+use Rattle.plan_check.proofs.LoopLemmas.{first_break_at, each_more, each_all}
+
+-- the point of the last entry
+abbrev pub latest : List Time → ℕ
+latest [] = 0
+latest (t ∷ []) = t.point.0
+latest (t ∷ u ∷ ts) = latest (u ∷ ts)
+
+latest-push : (ts : List Time) (t : Time) → latest (ts ++ t ∷ []) ≡ t.point.0
+latest-push [] t = refl
+latest-push (x ∷ []) t = refl
+latest-push (x ∷ y ∷ ts) t = latest-push (y ∷ ts) t
+
+latest_below : (ts : List Time) (n : ℕ) → 0 < n → AllByRecursion (λ (b : Time). b.point.0 < n) ts → latest ts < n
+latest_below [] n some h = some
+latest_below (t ∷ []) n some h = h.0
+latest_below (t ∷ u ∷ ts) n some h = latest_below (u ∷ ts) n some h.1
+
+-- the entries so far rise up to the last one, and are no more than its number
+pub record AreRising (ts : List Time) (last : ℕ) : Type 0 where
+  pub latest : last ≡ latest ts
+  pub each : AllByRecursion (λ (b : Time). b.point.0 ≤ last) ts
+
+pub rising_none : AreRising [] 0
+rising_none = record { latest = refl; each = tt }
+
+pub rising-push : (ts : List Time) (i : ℕ) (d : Time) (last : ℕ) → i < length ts → AreRising (take i ts) last → last < (get_or ts i d).point.0 → AreRising (take (i + 1) ts) (get_or ts i d).point.0
+rising-push ts i d last below h at =
+    let t = get_or ts i d in
+    let P : Time → Type 0 = λ b. b.point.0 ≤ t.point.0 in
+    subst (λ (l : List Time). AreRising l t.point.0) (sym (take_more ts i d below)) (record {
+      latest = sym (latest-push (take i ts) t);
+      each = each_both P (take i ts) (t ∷ []) (each_weaker (λ (b : Time). b.point.0 ≤ last) P (λ b less. omega (arith, less, at)) (take i ts) h.each) (omega arith, tt);
+    })
+
+module _ (es : List Extension) (e : Extension) (flags : List Bool) (size : length flags ≡ count es) (marked : AreFlags es flags) (before : List Time) (last : ℕ) (rising : AreRising before last) where
+  pub fixes : (t : Time) → MayFix flags last e.since t → KeepsFixedAt es e before t
+  fixes t h = record {
+    not_origin = let b = h.behind in omega (arith, b);
+    below = let b = h.below in omega (arith, b, size);
+    new = sym (marked t.point.0) ∙ h.new;
+    rising = each_weaker (λ (b : Time). b.point.0 ≤ last) (λ (b : Time). b.point.0 < t.point.0) (λ b less. let at = h.behind in omega (arith, less, at)) before rising.each;
+    at = (h.low, h.high);
+  }
+
+  pub fixes_in : (t : Time) → KeepsFixedAt es e before t → MayFix flags last e.since t
+  fixes_in t h = record {
+    behind = let most = latest_below before t.point.0 h.not_origin h.rising in omega (arith, most, rising.latest);
+    below = let b = h.below in omega (arith, b, size);
+    new = marked t.point.0 ∙ h.new;
+    low = h.at.0;
+    high = h.at.1;
+  }
+
+-- one more flag
+pub marked_more : (es : List Extension) (i : ℕ) (d : Extension) (flags next : List Bool) → i < length es → AreFlags (take i es) flags → ((x : ℕ) → get_or next x false ≡ (get_or flags x false || list_any (λ (t : Time). nat_eq t.point.0 x) (get_or es i d).fixed)) → AreFlags (take (i + 1) es) next
+marked_more es i d flags next below h is = λ x.
+    is x
+    ∙ ap (λ b. b || list_any (λ (t : Time). nat_eq t.point.0 x) (get_or es i d).fixed) (h x)
+    ∙ sym (ap (λ l. is_fixed l x) (take_more es i d below) ∙ any-push (λ (e : Extension). list_any (λ (t : Time). nat_eq t.point.0 x) e.fixed) (take i es) (get_or es i d))
+  where
+    any-push : {X : Type 0} (p : X → Bool) (xs : List X) (y : X) → list_any p (xs ++ y ∷ []) ≡ (list_any p xs || p y)
+    any-push p [] y = elim (p y) as (λ v. (v || false) ≡ (false || v)) [ true ↦ refl | false ↦ refl ]
+    any-push p (x ∷ xs) y = elim (p x) as (λ v. (v || list_any p (xs ++ y ∷ [])) ≡ ((v || list_any p xs) || p y)) [ true ↦ refl | false ↦ any-push p xs y ]

@@ -1,0 +1,9 @@
+pub mod LoopLemmas
+pub mod WithinLemmas
+pub mod LineLemmas
+pub mod OrderLemmas
+pub mod FixedLemmas
+pub mod SupportLemmas
+pub mod NeedLemmas
+pub mod LimitLemmas
+pub mod CheckLemmas

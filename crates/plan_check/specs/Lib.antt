@@ -1,0 +1,10 @@
+pub mod Planned
+pub mod Seen
+pub mod Lines
+pub mod Standing
+pub mod Fixing
+pub mod Claimed
+pub mod Serving
+pub mod Open
+pub mod Meeting
+pub mod Scheduling

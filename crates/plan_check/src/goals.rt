@@ -1,0 +1,53 @@
+ghost use Rattle.std.specs.Prelude.{◌↔◌, length, slice_get, IsTrue, OnOk, IfErr};
+ghost use Rattle.hs_base.specs.Points.{tokens_of};
+ghost use Rattle.hs_base.specs.Missions.{IsMission};
+ghost use Rattle.hs_base.specs.Checked.{joined, KeepsGoals};
+ghost use Rattle.hs_base.specs.Faults.{BeforeGoal, IsFault};
+ghost use Rattle.plan_check.specs.Lines.{AreLines};
+ghost use Rattle.plan_check.specs.Meeting.{IsMetIn};
+
+use crate::lookups::is_same;
+use crate::timelines::Timelines;
+use hs_base::{Extension, Fault, Goal, Mission, Plan, TokenRef};
+
+/// Whether a goal's entry is a token of its kind.
+fn is_met(lines: &Timelines, goal: &Goal, entries: &[TokenRef], i: usize) -> bool
+    ensures { IsTrue result ↔ IsMetIn lines.now.rows.items goal.now (slice_get entries.now i) }
+{
+    let Some(token) = entries.get(i) else {
+        return false;
+    };
+    match lines.kind(*token) {
+        Some(kind) => is_same(kind, goal.kind),
+        None => false,
+    }
+}
+
+/// Whether each goal of the next horizon has its entry, and there are no further entries.
+pub(crate) fn check_goals(
+    mission: &Mission,
+    plan: &Plan,
+    lines: &Timelines,
+    extension: &Extension,
+) -> Result<(), Fault>
+    requires mission { IsMission mission.now }
+    requires before { BeforeGoal mission.now plan.now.extensions extension.now }
+    requires lines { AreLines (length mission.now.vars) (tokens_of (joined plan.now.extensions extension.now)) lines.now.rows.items }
+    ensures kept { OnOk result (KeepsGoals mission.now plan.now.extensions extension.now) }
+    ensures fault { IfErr result (IsFault mission.now plan.now.extensions extension.now) }
+{
+    let horizon = &mission.horizons.as_slice()[plan.extensions.len()];
+    let goals = horizon.goals.as_slice();
+    let entries = extension.goals.as_slice();
+    for (i, goal) in goals.iter().enumerate() {
+        if !is_met(lines, goal, entries, i) {
+            return Err(Fault::Goal { number: i as u32 });
+        }
+    }
+    if entries.len() > goals.len() {
+        return Err(Fault::Goal {
+            number: goals.len() as u32,
+        });
+    }
+    Ok(())
+}

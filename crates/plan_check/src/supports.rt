@@ -1,0 +1,90 @@
+ghost use Rattle.std.specs.Prelude.{◌≡◌, ◌+◌, ◌<◌, ◌^◌, ◌↔◌, length, slice_get, Some, IsTrue, IfOk, OnOk, IfErr};
+ghost use Rattle.hs_base.specs.declared.plan.Support.{Support};
+ghost use Rattle.hs_base.specs.Points.{tokens_of};
+ghost use Rattle.hs_base.specs.Checked.{joined, supports_of, Checked, IsNeedBefore, KeepsSupports};
+ghost use Rattle.hs_base.specs.Faults.{BeforeSupport, IsFault};
+ghost use Rattle.plan_check.specs.Lines.{AreLines};
+ghost use Rattle.plan_check.specs.Claimed.{AreClaims};
+ghost use Rattle.plan_check.specs.Serving.{IsServingIn, IsBehindLast};
+
+use crate::claims::Claims;
+use crate::lookups::{need_at, serves};
+use crate::timelines::Timelines;
+use hs_base::{Extension, Fault, Mission, Plan, Support};
+use std::alloc::Global;
+
+/// Whether a support names a token, a need of it, and a token of one of that need's choices.
+fn is_serving(mission: &Mission, lines: &Timelines, support: Support) -> bool
+    ensures { IsTrue result ↔ IsServingIn mission.now lines.now.rows.items support }
+{
+    let Some(of) = lines.kind(support.token) else {
+        return false;
+    };
+    let Some(need) = need_at(mission, of, support.need) else {
+        return false;
+    };
+    match lines.kind(support.by) {
+        Some(by) => serves(need, by),
+        None => false,
+    }
+}
+
+/// Whether what a support is for comes before what another one is for.
+fn is_before(one: &Support, other: &Support) -> bool
+    ensures { IsTrue result ↔ IsNeedBefore one.now.token one.now.need other.now.token other.now.need }
+{
+    if one.token.sv.0 != other.token.sv.0 {
+        return one.token.sv.0 < other.token.sv.0;
+    }
+    if one.token.place != other.token.place {
+        return one.token.place < other.token.place;
+    }
+    one.need < other.need
+}
+
+/// Whether a support comes behind the one before it.
+fn is_rising(supports: &[Support], i: usize) -> bool
+    requires { i < length supports.now }
+    ensures { IsTrue result ↔ IsBehindLast supports.now i }
+{
+    if i == 0 {
+        return true;
+    }
+    is_before(&supports[i - 1], &supports[i])
+}
+
+/// Whether a support of a list is right behind the one before it.
+fn is_right(mission: &Mission, lines: &Timelines, supports: &[Support], i: usize) -> bool
+    requires { i < length supports.now }
+    ensures { IsTrue result ↔ (IsBehindLast supports.now i × ((s : Support) → slice_get supports.now i ≡ Some s → IsServingIn mission.now lines.now.rows.items s)) }
+{
+    is_rising(supports, i) && is_serving(mission, lines, supports[i])
+}
+
+/// What all supports of the plan with the extension are for, where the extension's are right.
+pub(crate) fn check_supports(
+    alloc: Global,
+    mission: &Mission,
+    plan: &Plan,
+    lines: &Timelines,
+    extension: &Extension,
+) -> Result<Claims, Fault>
+    requires checked { Checked mission.now plan.now.extensions }
+    requires before { BeforeSupport mission.now plan.now.extensions extension.now }
+    requires lines { AreLines (length mission.now.vars) (tokens_of (joined plan.now.extensions extension.now)) lines.now.rows.items }
+    ensures claims { IfOk result (λ c. AreClaims (supports_of (joined plan.now.extensions extension.now)) c.set) }
+    ensures kept { OnOk result (KeepsSupports mission.now plan.now.extensions extension.now) }
+    ensures fault { IfErr result (IsFault mission.now plan.now.extensions extension.now) }
+{
+    let mut claims = Claims::of_plan(alloc, plan.extensions.as_slice())?;
+    let supports = extension.supports.as_slice();
+    for (i, support) in supports.iter().enumerate() {
+        if !is_right(mission, lines, supports, i) {
+            return Err(Fault::WrongSupport { number: i as u32 });
+        }
+        if !claims.insert(support)? {
+            return Err(Fault::WrongSupport { number: i as u32 });
+        }
+    }
+    Ok(claims)
+}
