@@ -1,54 +1,124 @@
 -- Candidates for kept edges: only dominated edges are dropped, and candidates alone decide.
-use Rattle.std.proofs.Common.{◌≡◌, ◌≢◌, ℕ, ◌+◌, ◌<◌, Bool, true, false, cond, take, List, [], ◌∷◌, ◌++◌, length, get_or, map, All, Contains, pos, ◌+ℤ◌, refl, sym, ap, ◌∙◌, subst, arith, inl, inr}
+use Rattle.std.proofs.Common.{◌≡◌, ◌≢◌, ℕ, ◌+◌, ◌<◌, Bool, true, false, cond, take, List, [], ◌∷◌, ◌++◌, length, get_or, map, All, Contains, ℤ, pos, ◌+ℤ◌, to_z, of_z, w64, refl, sym, ap, ◌∙◌, subst, arith, inl, inr}
 use Rattle.std.proofs.lemmas.Int.{ints}
-use Rattle.std.proofs.lemmas.Bool.{cases_Bool, both_ways, and_parts, and_from, and_right, or_left, eqb-false, not-true, not_from_false, ne_eqb, cases_eq}
-use Rattle.std.proofs.lemmas.List.{map_push, map-append, take_more}
-use Rattle.std.proofs.lemmas.List.Elements.{All-push, All-append, All-nil, filter-append, All-contains, Contains-append_left, Contains-push}
+use Rattle.std.proofs.lemmas.Bool.{cases_Bool, both_ways, and_parts, and_from, and_right, or_left, or_right, eqb-true, eqb-false, eq-eqb, not-true, not-false, not_from_false, ne_eqb, cases_eq, cases_lt}
+use Rattle.std.proofs.lemmas.List.{get_or-map, length-map, get_or_default}
+use Rattle.std.proofs.lemmas.List.Elements.{All-push, All-append, All-nil, All-contains, Contains-get_or, Contains-append_left, Contains-push, Contains-push_cases}
 use Rattle.std.proofs.lemmas.List.Folds.{list_any-append}
-use Rattle.std.proofs.lemmas.List.Sorted.{Contains-permutation, IsPermutation-sym}
-use Rattle.std.specs.Prelude.{filter, int_lt, int_le, not, ◌&&◌, nat_eq}
+use Rattle.std.specs.Prelude.{◌⊎◌, neg_ℤ, ◌≤ℤ◌, filter, int_lt, int_le, not, ◌&&◌, nat_eq}
 use Rattle.std.specs.List.{list_any}
-use Rattle.std.specs.List.Sorted.{IsPermutation}
+use Rattle.hs_base.specs.Schedule.{time_of}
 use Rattle.hs_base.specs.Reduced.{Table, int_eq, is_kept}
-use Rattle.net_laws.proofs.BetweenLemmas.{Has, Web, some_passes, none_passes, kept_or, kept_from, kept_to, int_eq-true, eq_int_eq, int_le-true, int_lt-true, le_int_le, lt_int_lt}
+use Rattle.stn_distance.specs.Distances.{Distances, weight}
+use Rattle.net_laws.proofs.BetweenLemmas.{Has, Web, some_passes as some_has, none_passes, kept_or, kept_from, kept_to, filter_smaller, int_eq-true, eq_int_eq, int_le-true, int_lt-true, le_int_le, lt_int_lt}
 use Rattle.net_laws.proofs.KeptLemmas.{dominated_by_kept}
-use Rattle.net_laws.proofs.ListLemmas.{has_from, contains_from, has_filter, filter_has, has_map}
+use Rattle.net_laws.proofs.ListLemmas.{has_from, contains_from, has_filter, filter_has}
 use Rattle.edge_filter.specs.declared.side.Side.{Side}
 use Rattle.edge_filter.specs.declared.side.Side.TheVariants.{Incoming, Outgoing}
 use Rattle.edge_filter.specs.declared.candidates.Candidate.{Candidate}
-use Rattle.edge_filter.specs.declared.candidates.Keyed.{Keyed}
 use Rattle.edge_filter.specs.Sides.{along, has_sign, is_on, is_kept_at, is_kept_on}
-use Rattle.edge_filter.specs.Candidates.{points_of, IsSettled, AreNarrowed, IsCandidate, AreCandidates, passes_by, some_passes_by}
+use Rattle.edge_filter.specs.Marks.{AreLeaders}
+use Rattle.edge_filter.specs.Weights.{IsRow, IsGrid, weights_on}
+use Rattle.edge_filter.specs.Candidates.{is_other, IsOther, HasOthers, IsPlaced, passes_by, passes, some_passes, is_left, IsSettled, AreNarrowed, is_unpassed}
+use Rattle.edge_filter.proofs.MarkLemmas.{leaders_are_web, leaders_apart}
 
--- ---- One more keyed candidate
+-- ---- Rows and their weights
 
-cond_mapped : (b : Bool) (k : Keyed) → map (λ (k : Keyed). k.candidate.point) (cond b (k ∷ []) []) ≡ cond b (k.candidate.point ∷ []) []
-cond_mapped true k = refl
-cond_mapped false k = refl
+-- a test of two weights of a machine's words
+pub word_test : (s w : ℤ) → neg_ℤ (pos 4000000000) ≤ℤ s → s ≤ℤ pos 4000000000 → neg_ℤ (pos 4000000000) ≤ℤ w → w ≤ℤ pos 4000000000 → nat_eq (of_z w64 s) (of_z w64 w) ≡ int_eq s w
+word_test s w sl sh wl wh =
+    let ps : to_z w64 (of_z w64 s) ≡ s = omega (arith, ints) in
+    let pw : to_z w64 (of_z w64 w) ≡ w = omega (arith, ints) in
+    elim (cases_Bool (int_eq s w)) [
+      | inl e ↦ eq-eqb (of_z w64 s) (of_z w64 w) (ap (of_z w64) (int_eq-true s w e)) ∙ sym e
+      | inr n ↦ ne_eqb (of_z w64 s) (of_z w64 w) (λ h. both_ways (int_eq s w) n (eq_int_eq s w (sym ps ∙ ap (to_z w64) h ∙ pw))) ∙ sym n
+    ]
 
-pub points_of-more : (side : Side) (d : Table) (a : ℕ) (keyed : List Keyed) (leaders : List ℕ) (i : ℕ) (k : Keyed) → i < length leaders → points_of keyed ≡ filter (is_on side d a) (take i leaders)
-    → k.candidate.point ≡ get_or leaders i 0 → points_of (keyed ++ cond (is_on side d a (get_or leaders i 0)) (k ∷ []) []) ≡ filter (is_on side d a) (take (i + 1) leaders)
-points_of-more side d a keyed leaders i k l e same =
-    let x = get_or leaders i 0 in let b = is_on side d a x in
-    map-append (λ (k : Keyed). k.candidate.point) keyed (cond b (k ∷ []) [])
-    ∙ ap (λ (ps : List ℕ). ps ++ map (λ (k : Keyed). k.candidate.point) (cond b (k ∷ []) [])) e
-    ∙ ap (λ (ps : List ℕ). filter (is_on side d a) (take i leaders) ++ ps) (cond_mapped b k ∙ ap (λ (p : ℕ). cond b (p ∷ []) []) same)
-    ∙ sym (filter-append (is_on side d a) (take i leaders) (x ∷ [])) ∙ ap (filter (is_on side d a)) (sym (take_more leaders i 0 l))
+pub grid_row : (n : ℕ) (grid : List (List ℤ)) (k : ℕ) (row : List ℤ) → IsGrid n grid → k < n → row ≡ get_or grid k [] → IsRow n row
+grid_row n grid k row h l e = let long = h.long in subst (IsRow n) (sym e) (h.rows k [] (omega arith))
 
-pub All-cond : {X : Type 0} (P : X → Type 0) (xs : List X) (b : Bool) (x : X) → All P xs → P x → All P (xs ++ cond b (x ∷ []) [])
-All-cond P xs true x h p = All-push P xs x h p
+pub own_row : (n : ℕ) (row : List ℤ) → IsRow n row → IsRow (length row) row
+own_row n row h = subst (λ (m : ℕ). IsRow m row) (sym h.long) h
+
+-- ---- One more of the others
+
+pub All-cond : {X : Type 0} (P : X → Type 0) (xs : List X) (b : Bool) (x : X) → All P xs → (b ≡ true → P x) → All P (xs ++ cond b (x ∷ []) [])
+All-cond P xs true x h p = All-push P xs x h (p refl)
 All-cond P xs false x h p = All-append P xs [] h (All-nil P)
 
--- ---- One more point
+pub HasOthers-more : (side : Side) (row : List ℤ) (a i : ℕ) (bs : List Candidate) (b : Candidate) → b.place ≡ i → HasOthers side row a i bs
+    → HasOthers side row a (i + 1) (bs ++ cond (is_other side a i (time_of row i)) (b ∷ []) [])
+HasOthers-more side row a i bs b same h = record {
+  all = λ j l on. elim (cases_lt j i) [
+    | inl early ↦ let r = h.all j early on in (r.0, Contains-append_left bs (cond (is_other side a i (time_of row i)) (b ∷ []) []) r.0 r.1, r.2)
+    | inr late ↦
+        let e : j ≡ i = omega arith in
+        let there : is_other side a i (time_of row i) ≡ true = subst (λ (k : ℕ). is_other side a k (time_of row k) ≡ true) e on in
+        (b, subst (λ (t : Bool). Contains (bs ++ cond t (b ∷ []) []) b) (sym there) (Contains-push bs b), same ∙ sym e)
+  ];
+}
 
-pub IsSettled-pushed : (side : Side) (d : Table) (a : ℕ) (bs : List Candidate) (b : Candidate) (x : ℕ) → IsSettled side d a bs x → IsSettled side d a (bs ++ b ∷ []) x
-IsSettled-pushed side d a bs b x (inl h) =
-    inl (subst (λ (ps : List ℕ). Contains ps x) (sym (map_push (λ (b : Candidate). b.point) bs b)) (Contains-append_left (map (λ (b : Candidate). b.point) bs) (b.point ∷ []) x h))
-IsSettled-pushed side d a bs b x (inr h) =
-    inr (list_any-append (passes_by side d x (along side d a x)) bs (b ∷ []) ∙ or_left (list_any (passes_by side d x (along side d a x)) bs) (list_any (passes_by side d x (along side d a x)) (b ∷ [])) h)
+pub placed_others : (side : Side) (row : List ℤ) (a n : ℕ) (bs : List Candidate) → IsRow n row → All (IsOther side row a) bs → All (IsPlaced n) bs
+placed_others side row a n bs h each k e l =
+    let o = each k e l in let near = h.near (get_or bs k e).place (pos 0) o.within in
+    let w = o.weight in let long = h.long in let within = o.within in let low = near.low in let high = near.high in
+    record { within = omega arith; low = omega (arith, ints); high = omega (arith, ints) }
 
-pub IsSettled-own : (side : Side) (d : Table) (a : ℕ) (bs : List Candidate) (b : Candidate) → IsSettled side d a (bs ++ b ∷ []) b.point
-IsSettled-own side d a bs b = inl (subst (λ (ps : List ℕ). Contains ps b.point) (sym (map_push (λ (b : Candidate). b.point) bs b)) (Contains-push (map (λ (b : Candidate). b.point) bs) b.point))
+-- ---- One more candidate
+
+-- the others that wait, and the candidates so far
+pub record IsNarrowing (rows : List (List ℤ)) (given waiting bs : List Candidate) : Type 0 where
+  pub from : (b : Candidate) → Contains waiting b → Contains given b
+  pub each : (b : Candidate) → Contains bs b → Contains given b
+  pub settled : (x : Candidate) → Contains given x → Contains waiting x ⊎ IsSettled rows bs x
+
+IsSettled-pushed : (rows : List (List ℤ)) (bs : List Candidate) (b x : Candidate) → IsSettled rows bs x → IsSettled rows (bs ++ b ∷ []) x
+IsSettled-pushed rows bs b x (inl h) = inl (h.0, Contains-append_left bs (b ∷ []) h.0 h.1, h.2)
+IsSettled-pushed rows bs b x (inr h) =
+    inr (list_any-append (passes rows x) bs (b ∷ []) ∙ or_left (list_any (passes rows x) bs) (list_any (passes rows x) (b ∷ [])) h)
+
+pub IsNarrowing-start : (rows : List (List ℤ)) (given : List Candidate) → IsNarrowing rows given given []
+IsNarrowing-start rows given = record { from = λ b i. i; each = λ b i. absurd (has_from [] b i); settled = λ x i. inl i }
+
+-- one that isn't left is settled
+IsSettled-gone : (rows : List (List ℤ)) (bs : List Candidate) (b x : Candidate) → is_left (get_or rows b.place []) b x ≡ false → IsSettled rows (bs ++ b ∷ []) x
+IsSettled-gone rows bs b x gone = elim (cases_Bool (nat_eq x.place b.place)) [
+  | inl same ↦ inl (b, Contains-push bs b, sym (eqb-true x.place b.place same))
+  | inr apart ↦ elim (cases_Bool (passes rows x b)) [
+    | inr off ↦ absurd (both_ways (is_left (get_or rows b.place []) b x) gone (and_from (not (nat_eq x.place b.place)) (not (passes rows x b)) (not_from_false (nat_eq x.place b.place) apart) (not_from_false (passes rows x b) off)))
+    | inl by ↦ inr (list_any-append (passes rows x) bs (b ∷ []) ∙ or_right (list_any (passes rows x) bs) (list_any (passes rows x) (b ∷ [])) (or_left (passes rows x b) false by))
+  ]
+]
+
+pub IsNarrowing-more : (rows : List (List ℤ)) (given waiting bs : List Candidate) (b : Candidate) → Contains waiting b → IsNarrowing rows given waiting bs
+    → IsNarrowing rows given (filter (is_left (get_or rows b.place []) b) waiting) (bs ++ b ∷ [])
+IsNarrowing-more rows given waiting bs b ib h =
+    let p = is_left (get_or rows b.place []) b in
+    record {
+      from = λ x i. h.from x (contains_from waiting x (has_filter p waiting x (has_from (filter p waiting) x i)).0);
+      each = λ x i. elim (Contains-push_cases bs b x i) [
+        | inl j ↦ h.each x j
+        | inr e ↦ subst (λ (y : Candidate). Contains given y) e (h.from b ib)
+      ];
+      settled = λ x i. elim (h.settled x i) [
+        | inl w ↦ elim (cases_Bool (p x)) [
+          | inl left ↦ inl (contains_from (filter p waiting) x (filter_has p waiting x (has_from waiting x w) left))
+          | inr gone ↦ inr (IsSettled-gone rows bs b x gone)
+        ]
+        | inr s ↦ inr (IsSettled-pushed rows bs b x s)
+      ];
+    }
+
+filter_whole : {X : Type 0} (xs : List X) → filter (λ _. true) xs ≡ xs
+filter_whole [] = refl
+filter_whole (x ∷ xs) = ap (λ ys. x ∷ ys) (filter_whole xs)
+
+-- the candidate itself isn't left
+pub left_shorter : (row : List ℤ) (waiting : List Candidate) (b : Candidate) → Contains waiting b → length (filter (is_left row b) waiting) < length waiting
+left_shorter row waiting b ib =
+    let gone : is_left row b b ≡ false = rw (eq-eqb b.place b.place refl) refl in
+    subst (λ (xs : List Candidate). length (filter (is_left row b) waiting) < length xs) (filter_whole waiting)
+    (filter_smaller (is_left row b) (λ _. true) waiting (λ x i e. refl) b (has_from waiting b ib) gone refl)
 
 -- ---- Only dominated edges are dropped
 
@@ -75,34 +145,6 @@ Dominates-on Outgoing d a x b hx hb apart sum ls ib kept =
       upper = λ s. absurd (omega (arith, ints));
       lower = λ s. int_lt-true (d a b) (pos 0) onb.1;
     })
-
--- a candidate that passes by dominates
-passed : (side : Side) (d : Table) (ls : List ℕ) (a x : ℕ) (b : Candidate) → is_on side d a x ≡ true → IsCandidate side d ls a b → passes_by side d x (along side d a x) b ≡ true
-    → is_kept_at side d ls a x ≡ true → ⊥
-passed side d ls a x b hx h p kept =
-    let parts = and_parts (not (nat_eq x b.point)) (int_eq (along side d b.point x +ℤ b.weight) (along side d a x)) p in
-    let sum = int_eq-true (along side d b.point x +ℤ b.weight) (along side d a x) parts.1 in let w = h.weight in
-    Dominates-on side d a x b.point hx h.on (eqb-false x b.point (not-true (nat_eq x b.point) parts.0)) (omega (arith, ints)) ls (has_from ls b.point h.given) kept
-
-pub AreCandidates-narrowed : (side : Side) (d : Table) (ls points : List ℕ) (a : ℕ) (bs : List Candidate) → IsPermutation (filter (is_on side d a) ls) points → AreNarrowed side d points a bs
-    → AreCandidates side d ls a bs
-AreCandidates-narrowed side d ls points a bs perm h =
-    let each : All (IsCandidate side d ls a) bs = λ k e l.
-    (let o = h.each k e l in
-    let back = has_filter (is_on side d a) ls (get_or bs k e).point (has_from (filter (is_on side d a) ls) (get_or bs k e).point (Contains-permutation points (filter (is_on side d a) ls) (get_or bs k e).point (IsPermutation-sym (filter (is_on side d a) ls) points perm) o.given)) in
-    record { given = contains_from ls (get_or bs k e).point back.0; on = back.1; weight = o.weight }) in
-    record {
-      each = each;
-      all = λ x i on kept.
-          (let there = Contains-permutation (filter (is_on side d a) ls) points x perm (contains_from (filter (is_on side d a) ls) x (filter_has (is_on side d a) ls x (has_from ls x i) on)) in
-          let settled = All-contains (IsSettled side d a bs) points x h.settled there in
-          elim settled [
-            | inl own ↦ own
-            | inr by ↦
-                let b = some_passes (passes_by side d x (along side d a x)) bs by in
-                absurd (passed side d ls a x b.0 on (All-contains (IsCandidate side d ls a) bs b.0 each (contains_from bs b.0 b.1)) b.2 kept)
-          ]);
-    }
 
 -- ---- Candidates alone decide
 
@@ -134,55 +176,125 @@ kept_dominator Outgoing d ls a x web ia ix hx none =
           )
     ]
 
-some_from : {X : Type 0} (p : X → Bool) (xs : List X) (x : X) → Has xs x → p x ≡ true → list_any p xs ≡ true
-some_from p xs x i h = elim (cases_Bool (list_any p xs)) [ inl e ↦ e | inr e ↦ absurd (both_ways (p x) (none_passes p xs e x i) h) ]
+some_from : {X : Type 0} (p : X → Bool) (xs : List X) (x : X) → Contains xs x → p x ≡ true → list_any p xs ≡ true
+some_from p xs x i h = elim (cases_Bool (list_any p xs)) [ inl e ↦ e | inr e ↦ absurd (both_ways (p x) (none_passes p xs e x (has_from xs x i)) h) ]
 
-kept_apart : (d : Table) (ls : List ℕ) (p q : ℕ) → p ≡ q → is_kept d ls p q ≡ false
-kept_apart d ls p q e = elim (cases_Bool (is_kept d ls p q)) [ inl h ↦ absurd ((kept_from d ls p q h).apart e) | inr h ↦ h ]
+kept_apart : (side : Side) (d : Table) (ls : List ℕ) (a x : ℕ) → is_kept_at side d ls a x ≡ true → x ≢ a
+kept_apart Incoming d ls a x h = (kept_from d ls x a h).apart
+kept_apart Outgoing d ls a x h = λ e. (kept_from d ls a x h).apart (sym e)
 
--- an edge that isn't on the side is kept on neither
-off_side : (side : Side) (d : Table) (ls : List ℕ) (a x : ℕ) → is_on side d a x ≡ false → is_kept_on side d ls a x ≡ false
-off_side Incoming d ls a x h = elim (cases_eq x a) [
-  | inl e ↦ rw (kept_apart d ls x a e) refl
-  | inr n ↦
-      let sign : has_sign Incoming (d x a) ≡ false = rw (ne_eqb x a n) at h in
-      and_right (is_kept d ls x a) (has_sign Incoming (d x a)) sign
-]
-off_side Outgoing d ls a x h = elim (cases_eq x a) [
-  | inl e ↦ rw (kept_apart d ls a x (sym e)) refl
-  | inr n ↦
-      let sign : has_sign Outgoing (d a x) ≡ false = rw (ne_eqb x a n) at h in
-      and_right (is_kept d ls a x) (has_sign Outgoing (d a x)) sign
-]
+module _ (side : Side) (dv : Distances) (ls : List ℕ) (a : ℕ) (rows : List (List ℤ)) (given bs : List Candidate) (leaders : AreLeaders dv ls)
+    (is : rows ≡ weights_on side (weight dv) ls ls) (la : a < length ls) (others : All (IsOther side (get_or rows a []) a) given)
+    (has : HasOthers side (get_or rows a []) a (length (get_or rows a [])) given) (narrowed : AreNarrowed rows given bs) where
+  read : (j k : ℕ) → j < length ls → k < length ls → time_of (get_or rows j []) k ≡ along side (weight dv) (get_or ls j 0) (get_or ls k 0)
+  read j k lj lk =
+      ap (λ (rs : List (List ℤ)). time_of (get_or rs j []) k) is
+      ∙ ap (λ (row : List ℤ). get_or row k (pos 0)) (get_or-map (λ b. map (along side (weight dv) b) ls) ls j 0 [] lj)
+      ∙ get_or-map (along side (weight dv) (get_or ls j 0)) ls k 0 (pos 0) lk
 
--- a kept edge on the side that dominates that of x is seen among the candidates
-seen : (side : Side) (d : Table) (ls : List ℕ) (a x p : ℕ) (bs : List Candidate) → AreCandidates side d ls a bs → Has ls p → is_on side d a p ≡ true → is_kept_at side d ls a p ≡ true → x ≢ p
-    → along side d p x +ℤ along side d a p ≡ along side d a x → some_passes_by side d bs x (along side d a x) ≡ true
-seen side d ls a x p bs h ip on kept apart sum =
-    let there = has_map (λ (b : Candidate). b.point) bs p (has_from (map (λ (b : Candidate). b.point) bs) p (h.all p (contains_from ls p ip) on kept)) in
-    let b = there.0 in let same : b.point ≡ p = there.2 in
-    let o = All-contains (IsCandidate side d ls a) bs b h.each (contains_from bs b there.1) in
-    let w : b.weight ≡ along side d a p = o.weight ∙ ap (along side d a) same in
-    let sum2 : along side d b.point x +ℤ b.weight ≡ along side d a x = (let e = ap (λ (y : ℕ). along side d y x) same in omega (arith, ints)) in
-    some_from (passes_by side d x (along side d a x)) bs b there.1
-    (and_from (not (nat_eq x b.point)) (int_eq (along side d b.point x +ℤ b.weight) (along side d a x)) (not_from_false (nat_eq x b.point) (ne_eqb x b.point (λ e. apart (e ∙ same)))) (eq_int_eq (along side d b.point x +ℤ b.weight) (along side d a x) sum2))
+  row_long : length (get_or rows a []) ≡ length ls
+  row_long =
+      ap (λ (rs : List (List ℤ)). length (get_or rs a [])) is
+      ∙ ap (λ (row : List ℤ). length row) (get_or-map (λ b. map (along side (weight dv) b) ls) ls a 0 [] la)
+      ∙ length-map ls (along side (weight dv) (get_or ls a 0))
 
--- the edge of x is kept on the side exactly where it is on it and no candidate passes by
-pub is_kept_on-candidates : (side : Side) (d : Table) (ls : List ℕ) (a x : ℕ) (bs : List Candidate) → Web d ls → Has ls a → Has ls x → AreCandidates side d ls a bs
-    → (is_on side d a x && not (some_passes_by side d bs x (along side d a x))) ≡ is_kept_on side d ls a x
-is_kept_on-candidates side d ls a x bs web ia ix h = elim (cases_Bool (is_on side d a x)) [
-  | inr off ↦ rw off (sym (off_side side d ls a x off))
-  | inl on ↦
-      let sign = (and_parts (not (nat_eq x a)) (has_sign side (along side d a x)) on).1 in
-      elim (cases_Bool (is_kept_at side d ls a x)) [
-        | inl kept ↦ elim (cases_Bool (some_passes_by side d bs x (along side d a x))) [
-          | inl by ↦
-              let b = some_passes (passes_by side d x (along side d a x)) bs by in
-              absurd (passed side d ls a x b.0 on (All-contains (IsCandidate side d ls a) bs b.0 h.each (contains_from bs b.0 b.1)) b.2 kept)
-          | inr none ↦ rw (on, none, kept, sign) refl
-        ]
-        | inr not_kept ↦
-            let p = kept_dominator side d ls a x web ia ix on not_kept in
-            rw (on, seen side d ls a x p.0 bs h p.1 p.2 p.3 p.4 p.5, not_kept) refl
+  same_test : (k : ℕ) → k < length ls → nat_eq k a ≡ nat_eq (get_or ls k 0) (get_or ls a 0)
+  same_test k lk = elim (cases_eq k a) [
+    | inl e ↦ eq-eqb k a e ∙ sym (eq-eqb (get_or ls k 0) (get_or ls a 0) (ap (λ (j : ℕ). get_or ls j 0) e))
+    | inr n ↦ ne_eqb k a n ∙ sym (ne_eqb (get_or ls k 0) (get_or ls a 0) (λ e. n (leaders_apart dv ls leaders k a lk la e)))
+  ]
+
+  on_is : (k : ℕ) (w : ℤ) → k < length ls → w ≡ along side (weight dv) (get_or ls a 0) (get_or ls k 0) → is_other side a k w ≡ is_on side (weight dv) (get_or ls a 0) (get_or ls k 0)
+  on_is k w lk e = ap (λ (t : Bool). not t && has_sign side w) (same_test k lk) ∙ ap (λ (z : ℤ). not (nat_eq (get_or ls k 0) (get_or ls a 0)) && has_sign side z) e
+
+  -- what another one says of its edge
+  record Told (b : Candidate) : Type 0 where
+    pub below : b.place < length ls
+    pub weight_is : b.weight ≡ along side (weight dv) (get_or ls a 0) (get_or ls b.place 0)
+    pub on : is_on side (weight dv) (get_or ls a 0) (get_or ls b.place 0) ≡ true
+
+  told : (b : Candidate) → Contains given b → Told b
+  told b i =
+      let o = All-contains (IsOther side (get_or rows a []) a) given b others i in
+      let long = row_long in let within = o.within in
+      let l : b.place < length ls = omega arith in
+      let w = o.weight ∙ read a b.place la l in
+      record { below = l; weight_is = w; on = sym (on_is b.place b.weight l w) ∙ o.on }
+
+  -- one that passes by another dominates it
+  passed : (x b : Candidate) → Told x → Told b → passes rows x b ≡ true → is_kept_at side (weight dv) ls (get_or ls a 0) (get_or ls x.place 0) ≡ true → ⊥
+  passed x b tx tb by kept =
+      let parts = and_parts (not (nat_eq x.place b.place)) (int_eq (time_of (get_or rows b.place []) x.place +ℤ b.weight) x.weight) by in
+      let sum = int_eq-true (time_of (get_or rows b.place []) x.place +ℤ b.weight) x.weight parts.1 in
+      let r = read b.place x.place tb.below tx.below in let wx = tx.weight_is in let wb = tb.weight_is in
+      Dominates-on side (weight dv) (get_or ls a 0) (get_or ls x.place 0) (get_or ls b.place 0) tx.on tb.on
+      (λ e. eqb-false x.place b.place (not-true (nat_eq x.place b.place) parts.0) (leaders_apart dv ls leaders x.place b.place tx.below tb.below e))
+      (omega (arith, ints)) ls (has_from ls (get_or ls b.place 0) (Contains-get_or ls b.place 0 tb.below)) kept
+
+  unpassed : (x : Candidate) → Told x → is_kept_at side (weight dv) ls (get_or ls a 0) (get_or ls x.place 0) ≡ true → some_passes rows bs x ≡ false
+  unpassed x tx kept = elim (cases_Bool (some_passes rows bs x)) [
+    | inr off ↦ off
+    | inl by ↦
+        let b = some_has (passes rows x) bs by in
+        absurd (passed x b.0 tx (told b.0 (narrowed.each b.0 (contains_from bs b.0 b.1))) b.2 kept)
+  ]
+
+  -- a kept edge on the side has a candidate
+  candidate : (i : ℕ) → i < length ls → is_on side (weight dv) (get_or ls a 0) (get_or ls i 0) ≡ true → is_kept_at side (weight dv) ls (get_or ls a 0) (get_or ls i 0) ≡ true
+      → (b : Candidate) × Contains bs b × (b.place ≡ i)
+  candidate i li on kept =
+      let long = row_long in
+      let o = has.all i (omega arith) (on_is i (time_of (get_or rows a []) i) li (read a i la li) ∙ on) in
+      let same : o.0.place ≡ i = o.2 in
+      elim (narrowed.settled o.0 o.1) [
+        | inl c ↦ (c.0, c.1, c.2 ∙ same)
+        | inr by ↦ absurd (both_ways (some_passes rows bs o.0) (unpassed o.0 (told o.0 o.1) (subst (λ (j : ℕ). is_kept_at side (weight dv) ls (get_or ls a 0) (get_or ls j 0) ≡ true) (sym same) kept)) by)
       ]
-]
+
+  kept_if : (i : ℕ) → i < length ls → list_any (is_unpassed rows bs i) bs ≡ true → is_kept_on side (weight dv) ls (get_or ls a 0) (get_or ls i 0) ≡ true
+  kept_if i li h =
+      let d = weight dv in let p = get_or ls a 0 in let x = get_or ls i 0 in
+      let found = some_has (is_unpassed rows bs i) bs h in let b : Candidate = found.0 in
+      let parts = and_parts (nat_eq b.place i) (not (some_passes rows bs b)) found.2 in
+      let same : b.place ≡ i = eqb-true b.place i parts.0 in
+      let tb = told b (narrowed.each b (contains_from bs b found.1)) in
+      let on : is_on side d p x ≡ true = subst (λ (j : ℕ). is_on side d p (get_or ls j 0) ≡ true) same tb.on in
+      let sign = (and_parts (not (nat_eq x p)) (has_sign side (along side d p x)) on).1 in
+      elim (cases_Bool (is_kept_at side d ls p x)) [
+        | inl kept ↦ and_from (is_kept_at side d ls p x) (has_sign side (along side d p x)) kept sign
+        | inr none ↦
+            let y = kept_dominator side d ls p x (leaders_are_web dv ls leaders) (has_from ls p (Contains-get_or ls a 0 la)) (has_from ls x (Contains-get_or ls i 0 li)) on none in
+            let there = contains_from ls y.0 y.1 in
+            let at : get_or ls there.0 0 ≡ y.0 = get_or_default ls there.0 0 y.0 there.1 ∙ there.2 in
+            let c = candidate there.0 there.1 (subst (λ (z : ℕ). is_on side d p z ≡ true) (sym at) y.2) (subst (λ (z : ℕ). is_kept_at side d ls p z ≡ true) (sym at) y.3) in
+            let tc = told c.0 (narrowed.each c.0 c.1) in
+            let lc : get_or ls c.0.place 0 ≡ y.0 = ap (λ (j : ℕ). get_or ls j 0) c.2 ∙ at in
+            let lb : get_or ls b.place 0 ≡ x = ap (λ (j : ℕ). get_or ls j 0) same in
+            let far : b.place ≢ c.0.place = λ e. y.4 (sym lb ∙ ap (λ (j : ℕ). get_or ls j 0) e ∙ lc) in
+            let r : time_of (get_or rows c.0.place []) b.place ≡ along side d y.0 x = read c.0.place b.place tc.below tb.below ∙ ap (λ (z : ℕ). along side d z (get_or ls b.place 0)) lc ∙ ap (along side d y.0) lb in
+            let wc : c.0.weight ≡ along side d p y.0 = tc.weight_is ∙ ap (along side d p) lc in
+            let wb : b.weight ≡ along side d p x = tb.weight_is ∙ ap (along side d p) lb in
+            let s = y.5 in
+            let by : passes rows b c.0 ≡ true = and_from (not (nat_eq b.place c.0.place)) (int_eq (time_of (get_or rows c.0.place []) b.place +ℤ c.0.weight) b.weight)
+            (not_from_false (nat_eq b.place c.0.place) (ne_eqb b.place c.0.place far)) (eq_int_eq (time_of (get_or rows c.0.place []) b.place +ℤ c.0.weight) b.weight (omega (arith, ints))) in
+            absurd (both_ways (some_passes rows bs b) (not-true (some_passes rows bs b) parts.1) (some_from (passes rows b) bs c.0 c.1 by))
+      ]
+
+  if_kept : (i : ℕ) → i < length ls → is_kept_on side (weight dv) ls (get_or ls a 0) (get_or ls i 0) ≡ true → list_any (is_unpassed rows bs i) bs ≡ true
+  if_kept i li h =
+      let d = weight dv in let p = get_or ls a 0 in let x = get_or ls i 0 in
+      let parts = and_parts (is_kept_at side d ls p x) (has_sign side (along side d p x)) h in
+      let on : is_on side d p x ≡ true = and_from (not (nat_eq x p)) (has_sign side (along side d p x)) (not_from_false (nat_eq x p) (ne_eqb x p (kept_apart side d ls p x parts.0))) parts.1 in
+      let c = candidate i li on parts.0 in
+      let none = unpassed c.0 (told c.0 (narrowed.each c.0 c.1)) (subst (λ (j : ℕ). is_kept_at side d ls p (get_or ls j 0) ≡ true) (sym c.2) parts.0) in
+      some_from (is_unpassed rows bs i) bs c.0 c.1 (and_from (nat_eq c.0.place i) (not (some_passes rows bs c.0)) (eq-eqb c.0.place i c.2) (not_from_false (some_passes rows bs c.0) none))
+
+  -- the edge is kept on the side exactly where a candidate stands there by which none passes
+  pub kept_tells : (i : ℕ) → i < length ls → list_any (is_unpassed rows bs i) bs ≡ is_kept_on side (weight dv) ls (get_or ls a 0) (get_or ls i 0)
+  kept_tells i li = elim (cases_Bool (list_any (is_unpassed rows bs i) bs)) [
+    | inl yes_ ↦ yes_ ∙ sym (kept_if i li yes_)
+    | inr no_ ↦ elim (cases_Bool (is_kept_on side (weight dv) ls (get_or ls a 0) (get_or ls i 0))) [
+      | inl kept ↦ absurd (both_ways (list_any (is_unpassed rows bs i) bs) no_ (if_kept i li kept))
+      | inr none ↦ no_ ∙ sym none
+    ]
+  ]

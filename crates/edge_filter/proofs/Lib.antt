@@ -1,2 +1,3 @@
 pub mod CandidateLemmas
 pub mod MarkLemmas
+pub mod ReformLemmas

@@ -1,58 +1,63 @@
--- Leaders whose edges on one side of a leader may be kept.
-use Rattle.std.specs.Prelude.{◌≡◌, ◌⊎◌, ℕ, ◌<◌, neg_ℤ, ◌≤ℤ◌, Bool, true, not, ◌&&◌, nat_eq, ℤ, ◌+ℤ◌, List, map, Contains, All}
+-- Other leaders on one side of a leader, by their places and the weights of their edges.
+use Rattle.std.specs.Prelude.{◌≡◌, ◌⊎◌, ℕ, ◌<◌, Bool, true, false, not, ◌&&◌, nat_eq, ℤ, neg_ℤ, ◌+ℤ◌, ◌≤ℤ◌, List, [], length, get_or, Contains}
 use Rattle.std.specs.List.{list_any}
 use Rattle.hs_base.specs.declared.limits.TheConstants.{LAST}
-use Rattle.hs_base.specs.Reduced.{Table, int_eq}
-use Rattle.stn_distance.specs.Distances.{Distances, weight}
+use Rattle.hs_base.specs.Schedule.{time_of}
+use Rattle.hs_base.specs.Reduced.{int_eq}
 use Rattle.edge_filter.specs.declared.side.Side.{Side}
 use Rattle.edge_filter.specs.declared.candidates.Candidate.{Candidate}
-use Rattle.edge_filter.specs.declared.candidates.Keyed.{Keyed}
-use Rattle.edge_filter.specs.Sides.{along, is_on, is_kept_at}
+use Rattle.edge_filter.specs.Sides.{has_sign}
 
--- the points of keyed candidates
-abbrev pub points_of : List Keyed → List ℕ
-points_of keyed = map (λ k. k.candidate.point) keyed
+-- i is another place than a, with a weight of that side
+abbrev pub is_other : Side → ℕ → ℕ → ℤ → Bool
+is_other side a i w = not (nat_eq i a) && has_sign side w
 
--- its point is one of the first n, and its weight within LAST of 0
-pub record IsInReach (n : ℕ) (b : Candidate) : Type 0 where
-  pub below : b.point < n
+-- it has the weight that the row of place a has for its place, and is another one on that side
+pub record IsOther (side : Side) (row : List ℤ) (a : ℕ) (b : Candidate) : Type 0 where
+  pub within : b.place < length row
+  pub weight : b.weight ≡ time_of row b.place
+  pub on : is_other side a b.place b.weight ≡ true
+
+-- each of the first n places that is another one on that side has a candidate
+pub record HasOthers (side : Side) (row : List ℤ) (a n : ℕ) (bs : List Candidate) : Type 0 where
+  pub all : (i : ℕ) → i < n → is_other side a i (time_of row i) ≡ true → (b : Candidate) × Contains bs b × (b.place ≡ i)
+
+-- its place is one of n, and its weight within LAST of 0
+pub record IsPlaced (n : ℕ) (b : Candidate) : Type 0 where
+  pub within : b.place < n
   pub low : neg_ℤ LAST ≤ℤ b.weight
   pub high : b.weight ≤ℤ LAST
 
--- its candidate is in reach, and has the weight of its edge
-pub record IsKeyed (side : Side) (d : Distances) (a : ℕ) (k : Keyed) : Type 0 where
-  pub reach : IsInReach d.count k.candidate
-  pub weight : k.candidate.weight ≡ along side (weight d) a k.candidate.point
+-- b isn't x, and stands on a shortest path by the row of its weights
+abbrev pub passes_by : List ℤ → Candidate → Candidate → Bool
+passes_by row x b = not (nat_eq x.place b.place) && int_eq (time_of row x.place +ℤ b.weight) x.weight
 
--- the candidate isn't x, and stands on a shortest path of this weight
-abbrev pub passes_by : Side → Table → ℕ → ℤ → Candidate → Bool
-passes_by side d x whole b = not (nat_eq x b.point) && int_eq (along side d b.point x +ℤ b.weight) whole
+-- the same by all rows
+abbrev pub passes : List (List ℤ) → Candidate → Candidate → Bool
+passes rows x b = passes_by (get_or rows b.place []) x b
 
--- one of the candidates is so
-abbrev pub some_passes_by : Side → Table → List Candidate → ℕ → ℤ → Bool
-some_passes_by side d bs x whole = list_any (passes_by side d x whole) bs
+-- one of the candidates does
+abbrev pub some_passes : List (List ℤ) → List Candidate → Candidate → Bool
+some_passes rows bs x = list_any (passes rows x) bs
 
--- a point of a list, with the weight of its edge
-pub record IsOf (side : Side) (d : Table) (points : List ℕ) (a : ℕ) (b : Candidate) : Type 0 where
-  pub given : Contains points b.point
-  pub weight : b.weight ≡ along side d a b.point
+-- x isn't b, which doesn't pass by it
+abbrev pub is_left : List ℤ → Candidate → Candidate → Bool
+is_left row b x = not (nat_eq x.place b.place) && not (passes_by row x b)
 
--- x is one of the candidates, or one of them passes by its edge
-abbrev pub IsSettled : Side → Table → ℕ → List Candidate → ℕ → Type 0
-IsSettled side d a bs x = Contains (map (λ b. b.point) bs) x ⊎ (some_passes_by side d bs x (along side d a x) ≡ true)
+-- a candidate stands at the place of x, or one passes by it
+abbrev pub IsSettled : List (List ℤ) → List Candidate → Candidate → Type 0
+IsSettled rows bs x = ((b : Candidate) × Contains bs b × (b.place ≡ x.place)) ⊎ (some_passes rows bs x ≡ true)
 
--- candidates of some points, by which all of them are settled
-pub record AreNarrowed (side : Side) (d : Table) (points : List ℕ) (a : ℕ) (bs : List Candidate) : Type 0 where
-  pub each : All (IsOf side d points a) bs
-  pub settled : All (IsSettled side d a bs) points
+-- some of those given, by which all of them are settled
+pub record AreNarrowed (rows : List (List ℤ)) (given bs : List Candidate) : Type 0 where
+  pub each : (b : Candidate) → Contains bs b → Contains given b
+  pub settled : (x : Candidate) → Contains given x → IsSettled rows bs x
 
--- another leader, with an edge of that side and its weight
-pub record IsCandidate (side : Side) (d : Table) (ls : List ℕ) (a : ℕ) (b : Candidate) : Type 0 where
-  pub given : Contains ls b.point
-  pub on : is_on side d a b.point ≡ true
-  pub weight : b.weight ≡ along side d a b.point
+-- b stands at i, and none of the candidates passes by it
+abbrev pub is_unpassed : List (List ℤ) → List Candidate → ℕ → Candidate → Bool
+is_unpassed rows bs i b = nat_eq b.place i && not (some_passes rows bs b)
 
--- leaders on that side, among them all whose edges are kept
-pub record AreCandidates (side : Side) (d : Table) (ls : List ℕ) (a : ℕ) (bs : List Candidate) : Type 0 where
-  pub each : All (IsCandidate side d ls a) bs
-  pub all : (x : ℕ) → Contains ls x → is_on side d a x ≡ true → is_kept_at side d ls a x ≡ true → Contains (map (λ b. b.point) bs) x
+-- the marks, one for each row, of the places of those of some candidates by which none of all passes
+pub record AreMarked (rows : List (List ℤ)) (bs some : List Candidate) (marks : List Bool) : Type 0 where
+  pub long : length marks ≡ length rows
+  pub each : (i : ℕ) → i < length rows → get_or marks i false ≡ list_any (is_unpassed rows bs i) some

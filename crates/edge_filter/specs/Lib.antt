@@ -1,3 +1,5 @@
 pub mod Candidates
 pub mod Marks
 pub mod Sides
+pub mod Weights
+pub mod Reform

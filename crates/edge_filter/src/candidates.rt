@@ -1,25 +1,24 @@
-ghost use Rattle.std.specs.Prelude.{◌≡◌, ◌<◌, ◌++◌, [], ◌∷◌, ◌&&◌, not, nat_eq, length, cond, filter, All, IfOk, OnOk, IsPermutation};
-ghost use Rattle.stn_distance.specs.Distances.{weight};
-ghost use Rattle.edge_filter.specs.Sides.{is_on, has_sign};
-ghost use Rattle.edge_filter.specs.Candidates.{points_of, passes_by, some_passes_by, IsInReach, IsKeyed, AreNarrowed, AreCandidates};
+ghost use Rattle.std.specs.Prelude.{◌≡◌, ◌<◌, ◌++◌, [], ◌∷◌, ◌≤ℤ◌, neg_ℤ, length, get_or, cond, filter, All, Contains, IfOk, OnOk, MatchOption};
+ghost use Rattle.stn_distance.specs.Rows.{items_of};
+ghost use Rattle.hs_base.specs.Schedule.{time_of};
+ghost use Rattle.hs_base.specs.declared.limits.TheConstants.{LAST};
+ghost use Rattle.edge_filter.specs.Weights.{IsRow, IsGrid};
+ghost use Rattle.edge_filter.specs.Candidates.{is_other, IsOther, HasOthers, IsPlaced, passes_by, some_passes, is_left, AreNarrowed, AreMarked};
 
 use crate::side::Side;
 use hs_base::{Memory, PointId};
 use std::alloc::Global;
 use stn_distance::Dist;
 
-/// A leader whose edge may be kept, with the edge's weight.
-#[derive(Clone, Copy)]
-pub(crate) struct Candidate {
-    pub(crate) point: u32,
-    pub(crate) weight: i64,
-}
-
-/// A candidate with the key that orders it.
+/// Another leader on one side of a leader, whose edge may be kept.
 #[derive(Clone, Copy, Drop)]
-pub(crate) struct Keyed {
+pub(crate) struct Candidate {
+    /// Its place among the leaders.
+    pub(crate) place: usize,
+    /// The weight of its edge.
+    pub(crate) weight: i64,
+    /// Those of the least keys are asked first.
     pub(crate) key: i64,
-    pub(crate) candidate: Candidate,
 }
 
 /// Twice the middle of the times that each leader can have.
@@ -47,149 +46,180 @@ fn key_of(side: Side, weight: i64, middle: i64) -> i64 {
     }
 }
 
-/// Whether `other` is another leader with an edge of this side, of this weight.
-pub(crate) fn is_on_side(side: Side, leader: u32, other: u32, weight: i64) -> bool
-    ensures { result ≡ (not (nat_eq other leader) && has_sign side weight) }
+/// Whether the leader at `other` is another one, with an edge of this side.
+fn is_on_side(side: Side, place: usize, other: usize, weight: i64) -> bool
+    ensures { result ≡ is_other side place other weight }
 {
-    if other == leader {
+    if other == place {
         return false;
     }
     side.has_sign(weight)
 }
 
-/// Takes a keyed candidate, where it is wanted.
-fn push_keyed_if(keyed: &mut Vec<Keyed>, wanted: bool, next: Keyed) -> Result<(), Memory>
-    ensures { OnOk result (keyed.new.items ≡ keyed.old.items ++ cond wanted (next ∷ []) []) }
+/// Takes a candidate, where it is wanted.
+fn push_if(candidates: &mut Vec<Candidate>, wanted: bool, next: Candidate) -> Result<(), Memory>
+    ensures { OnOk result (candidates.new.items ≡ candidates.old.items ++ cond wanted (next ∷ []) []) }
 {
     if wanted {
-        keyed.push(next)?;
+        candidates.push(next)?;
     }
     Ok(())
 }
 
-/// The other leaders with edges of this side, with their keys.
-fn keyed_of(
+/// The other leaders on this side of the leader at `place`, by the row of its edges' weights.
+pub(crate) fn others_of(
     alloc: Global,
-    dist: &Dist,
-    leaders: &[u32],
+    row: &[i64],
     middles: &[i64],
     side: Side,
-    leader: u32,
-) -> Result<Vec<Keyed>, Memory>
-    requires leader { leader < dist.now.count }
-    requires leaders { All (λ p. p < dist.now.count) leaders.now }
-    requires middles { length middles.now ≡ length leaders.now }
-    ensures points { IfOk result (λ v. points_of v.items ≡ filter (is_on side (weight dist.now) leader) leaders.now) }
-    ensures each { IfOk result (λ v. All (IsKeyed side dist.now leader) v.items) }
+    place: usize,
+) -> Result<Vec<Candidate>, Memory>
+    requires row { IsRow (length row.now) row.now }
+    requires middles { length middles.now ≡ length row.now }
+    ensures each { IfOk result (λ v. All (IsOther side row.now place) v.items) }
+    ensures all { IfOk result (λ v. HasOthers side row.now place (length row.now) v.items) }
 {
-    let mut keyed = Vec::with_capacity(alloc, leaders.len())?;
-    for (i, other) in leaders.iter().enumerate() {
-        let weight = side.along(dist, leader, *other);
-        let candidate = Candidate {
-            point: *other,
+    let mut others = Vec::with_capacity(alloc, row.len())?;
+    for other in 0..row.len() {
+        let weight = weight_at(row, other);
+        let next = Candidate {
+            place: other,
             weight,
+            key: key_of(side, weight, middles[other]),
         };
-        let key = key_of(side, weight, middles[i]);
-        let wanted = is_on_side(side, leader, *other, weight);
-        push_keyed_if(&mut keyed, wanted, Keyed { key, candidate })?;
+        push_if(&mut others, is_on_side(side, place, other, weight), next)?;
     }
-    Ok(keyed)
+    Ok(others)
 }
 
-/// The other leaders with edges of this side, in the order of their keys.
-fn ordered(
-    alloc: Global,
-    dist: &Dist,
-    leaders: &[u32],
-    middles: &[i64],
-    side: Side,
-    leader: u32,
-) -> Result<Vec<Keyed>, Memory>
-    requires leader { leader < dist.now.count }
-    requires leaders { All (λ p. p < dist.now.count) leaders.now }
-    requires middles { length middles.now ≡ length leaders.now }
-    ensures points { IfOk result (λ v. IsPermutation (filter (is_on side (weight dist.now) leader) leaders.now) (points_of v.items)) }
-    ensures each { IfOk result (λ v. All (IsKeyed side dist.now leader) v.items) }
+/// The candidate of the least key.
+fn least_of(waiting: &[Candidate]) -> Option<Candidate>
+    ensures { MatchOption result (waiting.now ≡ []) (λ b. Contains waiting.now b) }
 {
-    let mut keyed = keyed_of(alloc, dist, leaders, middles, side, leader)?;
-    keyed.sort_unstable_by_key(|next| next.key);
-    Ok(keyed)
+    let mut least = *waiting.first()?;
+    for next in waiting {
+        if next.key < least.key {
+            least = *next;
+        }
+    }
+    Some(least)
 }
 
-/// Whether the candidate stands on a shortest path of this weight between `other` and the leader.
-fn is_by(dist: &Dist, side: Side, other: u32, whole: i64, candidate: &Candidate) -> bool
-    requires other { other < dist.now.count }
-    requires candidate { IsInReach dist.now.count candidate.now }
-    ensures { result ≡ passes_by side (weight dist.now) other whole candidate.now }
+/// The weight at a place of a row.
+fn weight_at(row: &[i64], place: usize) -> i64
+    requires row { IsRow (length row.now) row.now }
+    requires place { place < length row.now }
+    ensures weight { result ≡ time_of row.now place }
+    ensures near { (neg_ℤ LAST ≤ℤ result) × (result ≤ℤ LAST) }
 {
-    if other == candidate.point {
+    row[place]
+}
+
+/// The row of a place.
+pub(crate) fn row_of(rows: &[Vec<i64>], place: usize) -> &[i64]
+    requires { place < length rows.now }
+    ensures { result.now ≡ get_or (items_of rows.now) place [] }
+{
+    rows[place].as_slice()
+}
+
+/// Whether a candidate, by the row of its edges' weights, stands on a shortest path between
+/// another leader and the one on whose side both are.
+fn is_by(row: &[i64], candidate: &Candidate, other: &Candidate) -> bool
+    requires row { IsRow (length row.now) row.now }
+    requires candidate { IsPlaced (length row.now) candidate.now }
+    requires other { IsPlaced (length row.now) other.now }
+    ensures { result ≡ passes_by row.now other.now candidate.now }
+{
+    if other.place == candidate.place {
         return false;
     }
-    side.along(dist, candidate.point, other) + candidate.weight == whole
+    weight_at(row, other.place) + candidate.weight == other.weight
 }
 
 /// Whether one of the candidates does.
-pub(crate) fn some_is_by(
-    dist: &Dist,
-    side: Side,
-    candidates: &[Candidate],
-    other: u32,
-    whole: i64,
-) -> bool
-    requires other { other < dist.now.count }
-    requires candidates { All (IsInReach dist.now.count) candidates.now }
-    ensures { result ≡ some_passes_by side (weight dist.now) candidates.now other whole }
+fn some_is_by(rows: &[Vec<i64>], candidates: &[Candidate], other: &Candidate) -> bool
+    requires rows { IsGrid (length rows.now) (items_of rows.now) }
+    requires candidates { All (IsPlaced (length rows.now)) candidates.now }
+    requires other { IsPlaced (length rows.now) other.now }
+    ensures { result ≡ some_passes (items_of rows.now) candidates.now other.now }
 {
     for candidate in candidates {
-        if is_by(dist, side, other, whole, candidate) {
+        if is_by(row_of(rows, candidate.place), candidate, other) {
             return true;
         }
     }
     false
 }
 
-/// Those whose edges pass by none of those before them.
-fn narrowed(
-    alloc: Global,
-    dist: &Dist,
-    keyed: &[Keyed],
-    side: Side,
-    leader: u32,
-) -> Result<Vec<Candidate>, Memory>
-    requires leader { leader < dist.now.count }
-    requires keyed { All (IsKeyed side dist.now leader) keyed.now }
-    ensures narrowed { IfOk result (λ v. AreNarrowed side (weight dist.now) (points_of keyed.now) leader v.items) }
-    ensures reach { IfOk result (λ v. All (IsInReach dist.now.count) v.items) }
+/// Whether another leader isn't the candidate, which doesn't pass by it.
+fn is_left(row: &[i64], candidate: &Candidate, other: &Candidate) -> bool
+    requires row { IsRow (length row.now) row.now }
+    requires candidate { IsPlaced (length row.now) candidate.now }
+    requires other { IsPlaced (length row.now) other.now }
+    ensures { result ≡ is_left row.now candidate.now other.now }
 {
+    let is_same = other.place == candidate.place;
+    if is_same {
+        return false;
+    }
+    !is_by(row, candidate, other)
+}
+
+/// Those that are left after a candidate.
+fn left_by(
+    alloc: Global,
+    row: &[i64],
+    waiting: &[Candidate],
+    candidate: &Candidate,
+) -> Result<Vec<Candidate>, Memory>
+    requires row { IsRow (length row.now) row.now }
+    requires waiting { All (IsPlaced (length row.now)) waiting.now }
+    requires candidate { IsPlaced (length row.now) candidate.now }
+    ensures { IfOk result (λ v. v.items ≡ filter (is_left row.now candidate.now) waiting.now) }
+{
+    let mut left = Vec::with_capacity(alloc, waiting.len())?;
+    for next in waiting {
+        push_if(&mut left, is_left(row, candidate, next), *next)?;
+    }
+    Ok(left)
+}
+
+/// Those whose edges pass by none of those before them. What stands between is asked first, so that
+/// few are left; whichever order, only dominated edges are dropped.
+pub(crate) fn narrowed(
+    alloc: Global,
+    rows: &[Vec<i64>],
+    others: &[Candidate],
+) -> Result<Vec<Candidate>, Memory>
+    requires rows { IsGrid (length rows.now) (items_of rows.now) }
+    requires others { All (IsPlaced (length rows.now)) others.now }
+    ensures { IfOk result (λ v. AreNarrowed (items_of rows.now) others.now v.items) }
+{
+    let mut waiting = Vec::from_slice(alloc, others)?;
     let mut candidates = Vec::new(alloc);
-    for next in keyed {
-        let candidate = next.candidate;
-        if !some_is_by(dist, side, &candidates, candidate.point, candidate.weight) {
-            candidates.push(candidate)?;
-        }
+    'candidates: while let Some(candidate) = least_of(&waiting) {
+        candidates.push(candidate)?;
+        waiting = left_by(alloc, row_of(rows, candidate.place), &waiting, &candidate)?;
     }
     Ok(candidates)
 }
 
-/// Leaders with edges of this side, among them all whose edges are kept.
-///
-/// What stands between is asked first, so that few others are left; whichever order, only
-/// dominated edges are dropped.
-pub(crate) fn candidates_of(
+/// Marks the places of the candidates by which no other passes.
+pub(crate) fn unpassed(
     alloc: Global,
-    dist: &Dist,
-    leaders: &[u32],
-    middles: &[i64],
-    side: Side,
-    leader: u32,
-) -> Result<Vec<Candidate>, Memory>
-    requires leader { leader < dist.now.count }
-    requires leaders { All (λ p. p < dist.now.count) leaders.now }
-    requires middles { length middles.now ≡ length leaders.now }
-    ensures candidates { IfOk result (λ v. AreCandidates side (weight dist.now) leaders.now leader v.items) }
-    ensures reach { IfOk result (λ v. All (IsInReach dist.now.count) v.items) }
+    rows: &[Vec<i64>],
+    candidates: &[Candidate],
+) -> Result<Vec<bool>, Memory>
+    requires rows { IsGrid (length rows.now) (items_of rows.now) }
+    requires candidates { All (IsPlaced (length rows.now)) candidates.now }
+    ensures { IfOk result (λ v. AreMarked (items_of rows.now) candidates.now candidates.now v.items) }
 {
-    let keyed = ordered(alloc, dist, leaders, middles, side, leader)?;
-    let candidates = narrowed(alloc, dist, &keyed, side, leader)?;
-    Ok(candidates)
+    let mut marks = vec![in alloc; false; rows.len()]?;
+    for candidate in candidates {
+        if !some_is_by(rows, candidates, candidate) {
+            marks[candidate.place] = true;
+        }
+    }
+    Ok(marks)
 }

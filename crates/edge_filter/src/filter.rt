@@ -1,12 +1,14 @@
-ghost use Rattle.std.specs.Prelude.{◌≡◌, ◌<◌, ◌++◌, [], ◌∷◌, ◌&&◌, ◌||◌, not, cond, map, length, get_or, All, Contains, IfOk, OnOk};
-ghost use Rattle.stn_distance.specs.Distances.{weight};
+ghost use Rattle.std.specs.Prelude.{◌≡◌, ℕ, ◌<◌, ◌++◌, List, [], ◌∷◌, ◌||◌, cond, map, length, get_or, IfOk, OnOk};
+ghost use Rattle.stn_distance.specs.Distances.{Distances, weight};
 ghost use Rattle.hs_base.specs.Reduced.{leaders, group_of, edges_from, edges_of};
-ghost use Rattle.edge_filter.specs.Sides.{along, is_on, is_kept_on};
-ghost use Rattle.edge_filter.specs.Candidates.{IsInReach, some_passes_by};
+ghost use Rattle.stn_distance.specs.Rows.{items_of};
+ghost use Rattle.edge_filter.specs.Sides.{is_kept_on};
+ghost use Rattle.edge_filter.specs.Weights.{IsGrid, weights_on};
 ghost use Rattle.edge_filter.specs.Marks.{AreLeaders, leaders_in, rows_in, mark_at, marks_on};
 
-use crate::candidates::{Candidate, candidates_of, is_on_side, middles_of, some_is_by};
+use crate::candidates::{middles_of, narrowed, others_of, row_of, unpassed};
 use crate::side::Side;
+use crate::weights::weights_between;
 use hs_base::{Bound, Group, List, Memory, PointId};
 use std::alloc::Global;
 use stn_distance::Dist;
@@ -22,39 +24,23 @@ fn leaders_of(alloc: Global, groups: &[Group]) -> Result<Vec<u32>, Memory>
     Ok(leaders)
 }
 
-/// Whether the edge between a leader and another is on this side, and no candidate passes by.
-fn is_kept(dist: &Dist, side: Side, candidates: &[Candidate], leader: u32, other: u32) -> bool
-    requires leader { leader < dist.now.count }
-    requires other { other < dist.now.count }
-    requires candidates { All (IsInReach dist.now.count) candidates.now }
-    ensures { result ≡ (is_on side (weight dist.now) leader other && not (some_passes_by side (weight dist.now) candidates.now other (along side (weight dist.now) leader other))) }
-{
-    let weight = side.along(dist, leader, other);
-    if !is_on_side(side, leader, other, weight) {
-        return false;
-    }
-    !some_is_by(dist, side, candidates, other, weight)
-}
-
-/// Which edges between a leader and each of them are on this side and kept.
+/// Which edges between the leader at `place` and each of them are kept, of those on the side whose
+/// weights the rows have.
 fn kept_on(
     alloc: Global,
-    dist: &Dist,
-    leaders: &[u32],
+    rows: &[Vec<i64>],
     middles: &[i64],
     side: Side,
-    leader: u32,
+    place: usize,
 ) -> Result<Vec<bool>, Memory>
-    requires leaders { AreLeaders dist.now leaders.now }
-    requires middles { length middles.now ≡ length leaders.now }
-    requires leader { Contains leaders.now leader }
-    ensures { IfOk result (λ v. v.items ≡ map (is_kept_on side (weight dist.now) leaders.now leader) leaders.now) }
+    requires rows { IsGrid (length rows.now) (items_of rows.now) }
+    requires middles { length middles.now ≡ length rows.now }
+    requires place { place < length rows.now }
+    ensures { IfOk result (λ v. (d : Distances) (ls : List ℕ) → AreLeaders d ls → items_of rows.now ≡ weights_on side (weight d) ls ls → v.items ≡ map (is_kept_on side (weight d) ls (get_or ls place 0)) ls) }
 {
-    let candidates = candidates_of(alloc, dist, leaders, middles, side, leader)?;
-    let mut marks = Vec::with_capacity(alloc, leaders.len())?;
-    for other in leaders {
-        marks.push(is_kept(dist, side, &candidates, leader, *other))?;
-    }
+    let others = others_of(alloc, row_of(rows, place), middles, side, place)?;
+    let candidates = narrowed(alloc, rows, &others)?;
+    let marks = unpassed(alloc, rows, &candidates)?;
     Ok(marks)
 }
 
@@ -70,9 +56,10 @@ fn rows_on(
     requires middles { length middles.now ≡ length leaders.now }
     ensures { IfOk result (λ v. rows_in v.items ≡ marks_on side (weight dist.now) leaders.now leaders.now) }
 {
-    let mut rows = Vec::with_capacity(alloc, leaders.len())?;
-    for leader in leaders {
-        rows.push(kept_on(alloc, dist, leaders, middles, side, *leader)?)?;
+    let weights = weights_between(alloc, dist, leaders, side)?;
+    let mut rows = Vec::with_capacity(alloc, weights.len())?;
+    for place in 0..weights.len() {
+        rows.push(kept_on(alloc, &weights, middles, side, place)?)?;
     }
     Ok(rows)
 }
@@ -133,7 +120,7 @@ fn push_edges(
 /// Morris, Tsamardinos 1998), by `from`, then `to`.
 ///
 /// A dominated edge is dominated by a kept one. So for each leader a few candidates, among them
-/// all kept edges on one side of it, tell which of its edges on that side are kept.
+/// all kept edges on one side of it, tell which of these are kept.
 pub fn keep(alloc: Global, dist: &Dist, groups: &List<Group>) -> Result<List<Bound>, Memory>
     requires { groups.now ≡ map (group_of dist.now.count (weight dist.now)) (leaders dist.now.count (weight dist.now)) }
     ensures { IfOk result (λ es. es ≡ edges_of (weight dist.now) (leaders dist.now.count (weight dist.now))) }

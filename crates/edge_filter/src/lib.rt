@@ -4,9 +4,12 @@
 mod candidates;
 mod filter;
 mod reduction;
+mod reformed;
 mod side;
 #[cfg(test)]
 mod tests;
+mod weights;
 
 pub use filter::keep;
 pub use reduction::network;
+pub use reformed::{Reformed, reform};

@@ -1,31 +1,56 @@
-use Rattle.std.proofs.Common.{ℕ, Bool, arith, take, ap, ◌∙◌, ◌≡◌}
-use Rattle.std.specs.Prelude.{map, ◌&&◌, not}
-use Rattle.std.proofs.lemmas.List.{take_all}
+use Rattle.std.proofs.Common.{◌≡◌, ◌∙◌, ℕ, ◌<◌, Bool, false, ℤ, List, [], length, get_or, map, sym, ap, subst, arith, All, Contains}
+use Rattle.std.proofs.lemmas.List.{ext_get_or, get_or-map, length-map}
+use Rattle.std.proofs.lemmas.List.Elements.{All-contains, Contains-get_or}
 use Rattle.stn_distance.specs.Distances.{weight}
-use Rattle.net_laws.proofs.ListLemmas.{has_from}
-use Rattle.rigid_contract.proofs.AmongLemmas.{map_same}
-use Rattle.edge_filter.specs.Sides.{along, is_on, is_kept_on}
-use Rattle.edge_filter.specs.Candidates.{some_passes_by}
-use Rattle.edge_filter.proofs.CandidateLemmas.{is_kept_on-candidates}
-use Rattle.edge_filter.proofs.MarkLemmas.{leader_below, leaders_below, leaders_are_web}
+use Rattle.stn_distance.specs.Rows.{items_of}
+use Rattle.edge_filter.specs.declared.candidates.Candidate.{Candidate}
+use Rattle.edge_filter.specs.Sides.{is_kept_on, along}
+use Rattle.edge_filter.specs.Weights.{IsRow}
+use Rattle.edge_filter.specs.Candidates.{IsPlaced, IsOther, HasOthers, AreNarrowed}
+use Rattle.edge_filter.proofs.CandidateLemmas.{grid_row, own_row, placed_others, kept_tells}
 use Rattle.edge_filter.proofs.filter.kept_on.Goals as goal
 
-pub candidates_of-requires-clause-leader : goal.candidates_of-requires-clause-leader
-candidates_of-requires-clause-leader c = leader_below c.args.dist.now c.args.leaders.now c.args.leader c.requires.leaders c.requires.leader
+pub others_of-requires-clause-middles : goal.others_of-requires-clause-middles
+others_of-requires-clause-middles c =
+    let row : IsRow (length c.args.rows.now) c.row_of.result.now = grid_row (length c.args.rows.now) (items_of c.args.rows.now) c.args.place c.row_of.result.now c.requires.rows c.requires.place c.row_of.ensures in
+    c.requires.middles ∙ sym row.long
 
-pub candidates_of-requires-clause-leaders : goal.candidates_of-requires-clause-leaders
-candidates_of-requires-clause-leaders c = leaders_below c.args.dist.now c.args.leaders.now c.requires.leaders
+pub others_of-requires-clause-row : goal.others_of-requires-clause-row
+others_of-requires-clause-row c = own_row (length c.args.rows.now) c.row_of.result.now (grid_row (length c.args.rows.now) (items_of c.args.rows.now) c.args.place c.row_of.result.now c.requires.rows c.requires.place c.row_of.ensures)
 
-pub is_kept-requires-clause-leader : goal.is_kept-requires-clause-leader
-is_kept-requires-clause-leader c = leader_below c.args.dist.now c.args.leaders.now c.args.leader c.requires.leaders c.requires.leader
+pub narrowed-requires-clause-others : goal.narrowed-requires-clause-others
+narrowed-requires-clause-others c =
+    subst (λ (bs : List Candidate). All (IsPlaced (length c.args.rows.now)) bs) (sym c.deref.ensures.value)
+    (placed_others c.args.side c.row_of.result.now c.args.place (length c.args.rows.now) c.in_ok-others.others.items
+    (grid_row (length c.args.rows.now) (items_of c.args.rows.now) c.args.place c.row_of.result.now c.requires.rows c.requires.place c.row_of.ensures) c.in_ok-others.ensures.each)
 
-pub is_kept-requires-clause-other : goal.is_kept-requires-clause-other
-is_kept-requires-clause-other c = leaders_below c.args.dist.now c.args.leaders.now c.requires.leaders c.loop-other.other-index 0 (omega arith)
+pub unpassed-requires-clause-candidates : goal.unpassed-requires-clause-candidates
+unpassed-requires-clause-candidates c =
+    let given = c.deref.result.now in let bs = c.deref-2.result.now in let n = length c.args.rows.now in
+    let placed : All (IsPlaced n) given =
+    subst (λ (xs : List Candidate). All (IsPlaced n) xs) (sym c.deref.ensures.value)
+    (placed_others c.args.side c.row_of.result.now c.args.place n c.in_ok-others.others.items (grid_row (length c.args.rows.now) (items_of c.args.rows.now) c.args.place c.row_of.result.now c.requires.rows c.requires.place c.row_of.ensures) c.in_ok-others.ensures.each) in
+    λ k e l.
+    All-contains (IsPlaced n) given (get_or bs k e) placed
+    (c.in_ok-candidates.ensures.each (get_or bs k e) (subst (λ (xs : List Candidate). Contains xs (get_or bs k e)) c.deref-2.ensures.value (Contains-get_or bs k e l)))
 
 pub returns : goal.returns
-returns c =
-    let ls = c.args.leaders.now in let side = c.args.side in let d = weight c.args.dist.now in let a = c.args.leader in let bs = c.in_ok-candidates.candidates.items in
-    let whole : take c.loop-other.other-index ls ≡ ls = take_all c.loop-other.other-index ls (omega arith) in
-    let test : ℕ → Bool = λ x. is_on side d a x && not (some_passes_by side d bs x (along side d a x)) in
-    c.loop-other.invariant ∙ ap (map test) whole
-    ∙ map_same test (is_kept_on side d ls a) ls (λ x i. is_kept_on-candidates side d ls a x bs (leaders_are_web c.args.dist.now ls c.requires.leaders) (has_from ls a c.requires.leader) i c.in_ok-candidates.ensures.candidates)
+returns c = λ d ls h e.
+    (let side = c.args.side in let a = c.args.place in let rows = items_of c.args.rows.now in let marks = c.in_ok-marks.ensures in
+    let given = c.deref.result.now in let bs = c.deref-2.result.now in
+    let rows_long : length rows ≡ length c.args.rows.now = length-map c.args.rows.now (λ row. row.items) in
+    let long : length rows ≡ length ls = ap (λ (rs : List (List ℤ)). length rs) e ∙ length-map ls (λ b. map (along side (weight d) b) ls) in
+    let within = c.requires.place in
+    let la : a < length ls = omega arith in
+    let others : All (IsOther side (get_or rows a []) a) given =
+    subst (λ (row : List ℤ). All (IsOther side row a) given) c.row_of.ensures (subst (λ (xs : List Candidate). All (IsOther side c.row_of.result.now a) xs) (sym c.deref.ensures.value) c.in_ok-others.ensures.each) in
+    let has : HasOthers side (get_or rows a []) a (length (get_or rows a [])) given =
+    subst (λ (row : List ℤ). HasOthers side row a (length row) given) c.row_of.ensures
+    (subst (λ (xs : List Candidate). HasOthers side c.row_of.result.now a (length c.row_of.result.now) xs) (sym c.deref.ensures.value) c.in_ok-others.ensures.all) in
+    let narrowed : AreNarrowed rows given bs = subst (λ (xs : List Candidate). AreNarrowed rows given xs) (sym c.deref-2.ensures.value) c.in_ok-candidates.ensures in
+    let test : ℕ → Bool = is_kept_on side (weight d) ls (get_or ls a 0) in
+    ext_get_or false c.in_ok-marks.marks.items (map test ls) (marks.long ∙ long ∙ sym (length-map ls test))
+    (λ i l.
+    (let marks_long = marks.long in
+    let li : i < length ls = omega arith in
+    marks.each i (omega arith) ∙ kept_tells side d ls a rows given bs h e la others has narrowed i li ∙ sym (get_or-map test ls i 0 false li))))

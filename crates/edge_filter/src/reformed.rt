@@ -1,0 +1,107 @@
+ghost use Rattle.std.specs.Prelude.{◌≡◌, IfOk};
+ghost use Rattle.hs_base.specs.Points.{count};
+ghost use Rattle.hs_base.specs.Bounds.{bounds_of};
+ghost use Rattle.hs_base.specs.Reduced.{IsReducedOf};
+ghost use Rattle.hs_base.specs.Checked.{Checked, fixed_of as times_fixed_in};
+ghost use Rattle.stn_distance.specs.Distances.{IsDistOf};
+ghost use Rattle.edge_filter.specs.Reform.{IsReformed};
+
+use crate::network;
+use hs_base::{Extension, Memory, Mission, Net, Plan, Time};
+use plan_check::CheckedPlan;
+use std::alloc::Global;
+use std::marker::Model;
+use stn_distance::{Dist, close_fixed};
+use token_net::{bounds, points};
+
+/// A checked plan with the distances of its points and its reduced network.
+#[derive(Drop)]
+pub struct Reformed {
+    plan: CheckedPlan,
+    dist: Dist,
+    net: Net,
+}
+
+impl Model for Reformed {
+    ghost use Rattle.edge_filter.specs.Reform.{Reform, IsReformed};
+
+    ghost Value = { Reform };
+
+    ghost view = { λ r. record { plan = r.plan; dist = r.dist; net = r.net } };
+
+    ghost invariant = { λ r. IsReformed (record { plan = r.plan; dist = r.dist; net = r.net }) };
+}
+
+impl Reformed {
+    /// The plan; it takes no memory.
+    pub fn plan(&self) -> &CheckedPlan
+        ensures plan { result.now ≡ self.now.plan }
+        ensures reformed { IsReformed self.now }
+    {
+        &self.plan
+    }
+
+    /// The distances of the plan's points; it takes no memory.
+    pub fn dist(&self) -> &Dist
+        ensures dist { result.now ≡ self.now.dist }
+        ensures reformed { IsReformed self.now }
+    {
+        &self.dist
+    }
+
+    /// The reduced network of the plan's bounds; it takes no memory.
+    pub fn net(&self) -> &Net
+        ensures net { result.now ≡ self.now.net }
+        ensures reformed { IsReformed self.now }
+    {
+        &self.net
+    }
+
+    /// The three parts; it takes no memory.
+    pub fn into_parts(self) -> (CheckedPlan, Dist, Net)
+        ensures plan { result.0 ≡ self.plan }
+        ensures dist { result.1 ≡ self.dist }
+        ensures net { result.2 ≡ self.net }
+        ensures reformed { IsReformed self }
+    {
+        let Reformed { plan, dist, net } = self;
+        (plan, dist, net)
+    }
+}
+
+/// The times that the extensions of a plan fix.
+fn fixed_of(alloc: Global, extensions: &[Extension]) -> Result<Vec<Time>, Memory>
+    ensures { IfOk result (λ fixed. fixed.items ≡ times_fixed_in extensions.now) }
+{
+    let mut fixed = Vec::new(alloc);
+    for extension in extensions {
+        fixed.extend_from_slice(extension.fixed.as_slice())?;
+    }
+    Ok(fixed)
+}
+
+/// The distances of a plan's points.
+fn distances(alloc: Global, mission: &Mission, plan: &Plan) -> Result<Dist, Memory>
+    requires { Checked mission.now plan.now.extensions }
+    ensures { IfOk result (IsDistOf (count plan.now.extensions) (bounds_of mission.now plan.now.extensions)) }
+{
+    let bounds = bounds(alloc, mission, plan)?;
+    let mut fixed = fixed_of(alloc, plan.extensions.as_slice())?;
+    fixed.sort_unstable_by_key(|time| time.point.0);
+    match close_fixed(alloc, points(plan), fixed.as_slice(), bounds.as_slice()) {
+        Ok(dist) => Ok(dist),
+        // Its bounds have a schedule, so they have no negative cycle.
+        Err(_) => Err(Memory),
+    }
+}
+
+/// Reformulates a checked plan for dispatching: its distances, and the network of rigid groups and
+/// of the edges between their leaders that no edge dominates (Muscettola, Morris, Tsamardinos 1998).
+pub fn reform(alloc: Global, plan: CheckedPlan) -> Result<Reformed, Memory>
+    ensures plan { IfOk result (λ r. r.plan ≡ plan) }
+    ensures net { IfOk result (λ r. IsReducedOf (count plan.plan.extensions) (bounds_of plan.mission plan.plan.extensions) r.net) }
+{
+    let dist = distances(alloc, plan.mission(), plan.plan())?;
+    let net = network(alloc, &dist)?;
+    Ok(Reformed { plan, dist, net })
+}
