@@ -4,10 +4,10 @@ use Rattle.hs_base.specs.declared.limits.TheConstants.{LAST}
 use Rattle.hs_base.specs.declared.net.Bound.{Bound}
 use Rattle.hs_base.specs.declared.net.Net.{Net}
 use Rattle.hs_base.specs.declared.plan.Time.{Time}
-use Rattle.hs_base.specs.Schedule.{bound, numbers_from}
+use Rattle.hs_base.specs.Schedule.{Schedule, bound, numbers_from}
 use Rattle.hs_base.specs.Network.{spread}
 use Rattle.hs_base.specs.Reduced.{IsReducedOf}
-use Rattle.hs_base.specs.Fits.{Times, time_at, MayBeNow, MayTick, IsForced, IsOneTime, Forbids, IsDue, LateBound}
+use Rattle.hs_base.specs.Fits.{Times, Fits, time_at, MayBeNow, MayTick, IsForced, IsOneTime, Forbids, IsDue, LateBound}
 use Rattle.hs_base.specs.Dispatch.{IsReached}
 
 -- the network, which points are observed, the time of each executed point, and now
@@ -58,6 +58,15 @@ fired s x = record s { times = set s.times x (Some s.tick) }
 -- a tick later
 abbrev pub ticked : State → State
 ticked s = record s { tick = s.tick +ℤ pos 1 }
+
+-- the time is another one
+abbrev pub at_time : State → ℤ → State
+at_time s n = record s { tick = n }
+
+-- some schedule that fits gives every open point that time or later
+pub record MayWait (s : State) (n : ℤ) : Type 0 where
+  pub some : Schedule
+  pub fits : Fits (points s) (spread s.net) (time_in s) n some
 
 -- the bound is a tight one of x that its execution now would break
 abbrev pub Bars : State → ℕ → Bound → Type 0

@@ -1,4 +1,4 @@
-ghost use Rattle.std.specs.Prelude.{◌≡◌, ◌↔◌, ◌<◌, ◌≤ℤ◌, ◌<ℤ◌, ℕ, ℤ, pos, true, length, slice_index_or, None, Some, IsTrue, IsOk, IfOk, IfErr, IfSome, IfNone, IsNone, MatchOption, MatchResult};
+ghost use Rattle.std.specs.Prelude.{◌≡◌, ◌↔◌, ◌<◌, ◌≤◌, ◌^◌, ◌≤ℤ◌, ◌<ℤ◌, ℕ, ℤ, pos, true, length, slice_index_or, None, Some, IsTrue, IsOk, IfOk, IfErr, IfSome, IfNone, IsNone, MatchOption, MatchResult};
 ghost use Rattle.hs_base.specs.declared.limits.TheConstants.{LAST};
 ghost use Rattle.hs_base.specs.Network.{spread};
 ghost use Rattle.hs_base.specs.Reduced.{IsReducedOf};
@@ -7,7 +7,7 @@ ghost use Rattle.hs_base.specs.declared.net.Group.{Group};
 ghost use Rattle.hs_base.specs.Dispatch.{IsReached, group_time};
 ghost use Rattle.dispatcher.specs.Places.{StandsAt};
 ghost use Rattle.dispatcher.specs.Edges.{IsKnownIn, IsSetAt, LeadsTo, LetsFire};
-ghost use Rattle.dispatcher.specs.State.{IsLawful, IsOpen, IsLeastTied, IsTiedTo, MayFire, MayGoOn, MustFire, IsInTime, IsLate, Bars, begun, fired, is_observed, points, ticked, time_in};
+ghost use Rattle.dispatcher.specs.State.{IsLawful, IsOpen, IsLeastTied, IsTiedTo, MayFire, MayGoOn, MayWait, MustFire, IsInTime, IsLate, Bars, at_time, begun, fired, is_observed, points, ticked, time_in};
 ghost use Rattle.dispatcher.specs.Marks.{AreMarksOf, Forced, IsHeldBy};
 
 use crate::groups::set_groups;
@@ -102,6 +102,22 @@ impl Course {
         self.times[p.0 as usize]
     }
 
+    /// The number of points.
+    pub fn points(&self) -> usize
+        ensures count { result ≡ points self.now }
+        ensures small { result ≤ 2 ^ 32 }
+    {
+        self.times.len()
+    }
+
+    /// Whether a point is observed.
+    pub fn is_observed(&self, p: PointId) -> bool
+        requires { p.0 < points self.now }
+        ensures { result ≡ is_observed self.now p.0 }
+    {
+        self.observed[p.0 as usize]
+    }
+
     /// Whether a point may be executed now: some schedule that fits gives it now. Else a bound from
     /// it, with its tight weight, that this would break.
     pub fn may_fire(&self, p: PointId) -> Result<(), Bound>
@@ -171,6 +187,17 @@ impl Course {
         ensures { self.new ≡ ticked self.old }
     {
         self.tick += 1;
+    }
+
+    /// Lets the time pass up to a tick, where some schedule that fits gives every open point that tick
+    /// or later.
+    pub fn wait_until(&mut self, to: i64)
+        requires later { self.old.tick ≤ℤ to }
+        requires last { to ≤ℤ LAST }
+        requires may { MayWait self.old to }
+        ensures { self.new ≡ at_time self.old to }
+    {
+        self.tick = to;
     }
 
     /// Marks the leaders that are forced now.

@@ -1,10 +1,10 @@
-ghost use Rattle.std.specs.Prelude.{◌≡◌, ◌↔◌, ◌<◌, ◌≤ℤ◌, ◌<ℤ◌, ℕ, length, IsTrue, IsOk, IfOk, IfErr, IfNone, IfSome, IsNone, MatchOption};
+ghost use Rattle.std.specs.Prelude.{◌≡◌, ◌↔◌, ◌<◌, ◌≤◌, ◌^◌, ◌≤ℤ◌, ◌<ℤ◌, ℕ, length, IsTrue, IsOk, IfOk, IfErr, IfNone, IfSome, IsNone, MatchOption};
 ghost use Rattle.hs_base.specs.declared.limits.TheConstants.{LAST};
 ghost use Rattle.hs_base.specs.Network.{spread};
 ghost use Rattle.hs_base.specs.Reduced.{IsReducedOf};
 ghost use Rattle.hs_base.specs.Fits.{EachOnce, time_at};
 ghost use Rattle.hs_base.specs.Dispatch.{IsReached};
-ghost use Rattle.dispatcher.specs.State.{IsLawful, IsOpen, IsLeastTied, IsTiedTo, MayFire, MayGoOn, MustFire, IsInTime, IsLate, Bars, begun, fired, points, ticked, time_in};
+ghost use Rattle.dispatcher.specs.State.{IsLawful, IsOpen, IsLeastTied, IsTiedTo, MayFire, MayGoOn, MayWait, MustFire, IsInTime, IsLate, Bars, at_time, begun, fired, is_observed, points, ticked, time_in};
 
 use crate::course::Course;
 use hs_base::{Bound, List, Memory, Net, PointId, Time};
@@ -69,6 +69,22 @@ impl Dispatch {
         self.course.time(p)
     }
 
+    /// The number of points.
+    pub fn points(&self) -> usize
+        ensures count { result ≡ points self.now }
+        ensures small { result ≤ 2 ^ 32 }
+    {
+        self.course.points()
+    }
+
+    /// Whether a point is observed.
+    pub fn is_observed(&self, p: PointId) -> bool
+        requires { p.0 < points self.now }
+        ensures { result ≡ is_observed self.now p.0 }
+    {
+        self.course.is_observed(p)
+    }
+
     /// The least open observed point, other than `p`, that has `p`'s time in every schedule.
     pub fn tied(&self, p: PointId) -> Option<PointId>
         requires { IsOpen self.now p.0 }
@@ -119,6 +135,17 @@ impl Dispatch {
         ensures { self.new ≡ ticked self.old }
     {
         self.course.advance();
+    }
+
+    /// Lets the time pass up to a tick, where some schedule that fits gives every open point that tick
+    /// or later.
+    pub fn wait_until(&mut self, to: i64)
+        requires later { self.old.tick ≤ℤ to }
+        requires last { to ≤ℤ LAST }
+        requires may { MayWait self.old to }
+        ensures { self.new ≡ at_time self.old to }
+    {
+        self.course.wait_until(to);
     }
 
     /// A point that must be executed now: it is forced, not observed, and not tied to an open

@@ -1,25 +1,39 @@
--- What an executive keeps of its history.
-use Rattle.std.specs.Prelude.{◌≡◌, ℕ, Bool, false, ℤ, pos, List, [], ◌∷◌, Option, Some, None, get_or}
-use Rattle.hs_base.specs.declared.plan.Extension.{Extension}
+-- What an executive keeps.
+use Rattle.std.specs.Prelude.{◌≡◌, ◌≢◌, ℕ, ◌<◌, Bool, false, List, [], length, vec_capacity, Option, Some, None}
+use Rattle.hs_base.specs.declared.mission.Mission.{Mission}
 use Rattle.hs_base.specs.declared.history.Entry.{Entry}
+use Rattle.hs_base.specs.Points.{hor}
 use Rattle.hs_base.specs.State.{now_of, plan_of, executed, has_failed}
+use Rattle.hs_base.specs.Run.{Run}
+use Rattle.exec_laws.specs.Follows.{Follows}
+use Rattle.exec_core.specs.Room.{HasRoom}
+use Rattle.exec_core.specs.declared.flight.Flight.{Flight}
+use Rattle.exec_core.specs.declared.exec.Exec.TheInside.{Inside}
 
--- the time of a point in a list with a place for each point
-abbrev pub time_in : List (Option ℤ) → ℕ → Option ℤ
-time_in times x = get_or times x None
+-- the newest plan is in execution
+pub record IsFlying (m : Mission) (h : List Entry) (f : Flight) : Type 0 where
+  pub mission : f.plan.mission ≡ m
+  pub plan : f.plan.plan.extensions ≡ plan_of h
+  pub some : plan_of h ≢ []
+  pub follows : Follows m h f.dispatch
+  pub mark : f.mark.0 ≡ hor (plan_of h) (length (plan_of h))
 
--- one plan of one extension was handed over, and these are the times of its points
-pub record IsFlying (h : List Entry) (times : List (Option ℤ)) : Type 0 where
-  pub extension : Extension
-  pub plan : plan_of h ≡ extension ∷ []
-  pub times_are : (x : ℕ) → time_in times x ≡ executed h x
+-- before the first handover no time goes by
+pub record IsGrounded (h : List Entry) : Type 0 where
+  pub plan : plan_of h ≡ []
+  pub now_is : now_of h ≡ 0
+  pub times : executed h ≡ executed []
 
--- nothing was handed over, or a plan with these times
-abbrev pub IsAt : List Entry → Option (List (Option ℤ)) → Type 0
-IsAt h None = h ≡ []
-IsAt h (Some times) = IsFlying h times
+abbrev pub IsAt : Mission → List Entry → Option Flight → Type 0
+IsAt m h None = IsGrounded h
+IsAt m h (Some f) = IsFlying m h f
 
-pub record IsKept (h : List Entry) (ticks : ℤ) (times : Option (List (Option ℤ))) : Type 0 where
-  pub ticks_are : ticks ≡ pos (now_of h)
-  pub none_failed : has_failed h ≡ false
-  pub at : IsAt h times
+abbrev pub HasRoomFor : Mission → List Entry → Option Flight → ℕ → Type 0
+HasRoomFor m h None room = length h < room
+HasRoomFor m h (Some f) room = HasRoom m h f.dispatch room
+
+pub record IsKept (d : Inside) : Type 0 where
+  pub run : Run d.mission d.history.items
+  pub failed : d.failed ≡ has_failed d.history.items
+  pub at : IsAt d.mission d.history.items d.live
+  pub room : d.failed ≡ false → HasRoomFor d.mission d.history.items d.live (vec_capacity d.history)

@@ -1,32 +1,32 @@
-ghost use Rattle.std.specs.Prelude.{◌≡◌, ◌≢◌, ◌↔◌, [], pos, replicate, None, IfOk, OnOk, OnErr};
-ghost use Rattle.hs_base.specs.State.{now_of, plan_of, phase_of};
-ghost use Rattle.exec_core.specs.Recorded.{Records};
+ghost use Rattle.std.specs.Prelude.{◌≡◌, ◌<◌, ◌^◌, true, [], pos, length, Some, IfOk, OnOk, OnErr, MatchOption};
+ghost use Rattle.hs_base.specs.Missions.{IsMission};
+ghost use Rattle.hs_base.specs.State.{now_of, plan_of, phase_of, is_failure, executes};
+ghost use Rattle.hs_base.specs.Machine.{Event, Replies, Turn, tick, fire, report, broken, handover, done};
+ghost use Rattle.exec_core.specs.Recorded.{MayRecord, recording};
+ghost use Rattle.exec_core.specs.Replies.{reply_of};
+ghost use Rattle.exec_core.specs.Next.{IsTurnedAway, MayTake, IsTurnedDown};
 
-use crate::live::Live;
-use crate::{Offer, Reply};
-use hs_base::{Copies, Deed, Entry, Memory, Mission, Phase, PointId, Same};
+use crate::Reply;
+use crate::decide::{decide_fire, decide_report, decide_tick};
+use crate::flight::{Flight, entries_of};
+use crate::next::not_next;
+use horizon_handover::{Handed, Offer};
+use hs_base::{Deed, Entry, Extension, Memory, Mission, Phase, PointId, Same, SvId};
 use std::alloc::Global;
 use std::marker::Model;
 
-/// No time for each of so many points.
-fn unset(alloc: Global, points: usize) -> Result<Vec<Option<i64>>, Memory>
-    ensures { IfOk result (λ times. times.items ≡ replicate points None) }
-{
-    Ok(vec![in alloc; None; points]?)
-}
-
-/// The executive of a mission. Contracts see it as its mission and its history.
+/// The executive of a mission. Contracts see it as its mission and its history, and each call as a
+/// turn of the schedule machine.
 #[derive(Drop)]
 pub struct Exec {
     alloc: Global,
     mission: Mission,
     history: Vec<Entry>,
-    ticks: i64,
-    live: Option<Live>,
+    failed: bool,
+    live: Option<Flight>,
 }
 
 impl Model for Exec {
-    ghost use Rattle.std.specs.Option.{option_map};
     ghost use Rattle.exec_core.specs.Recorded.{Recorded};
     ghost use Rattle.exec_core.specs.Kept.{IsKept};
 
@@ -34,19 +34,20 @@ impl Model for Exec {
 
     ghost view = { λ exec. record { mission = exec.mission; history = exec.history.items } };
 
-    ghost invariant = { λ exec. IsKept exec.history.items exec.ticks (option_map (λ l. l.times.items) exec.live) };
+    ghost invariant = { IsKept };
 }
 
 impl Exec {
     /// The executive of a mission, which has done nothing.
     pub fn begin(alloc: Global, mission: Mission) -> Result<Exec, Memory>
+        requires { IsMission mission }
         ensures { IfOk result (λ exec. exec ≡ record { mission = mission; history = [] }) }
     {
         Ok(Exec {
             alloc,
             mission,
             history: Vec::with_capacity(alloc, 1)?,
-            ticks: 0,
+            failed: false,
             live: None,
         })
     }
@@ -62,22 +63,28 @@ impl Exec {
     pub fn now(&self) -> i64
         ensures { result ≡ pos (now_of self.now.history) }
     {
-        self.ticks
+        match &self.live {
+            Some(flight) => flight.dispatch.now(),
+            None => 0,
+        }
     }
 
     /// Where the run stands.
     pub fn phase(&self) -> Phase
         ensures { result ≡ phase_of self.now.history }
     {
+        if self.failed {
+            return Phase::Failed;
+        }
         match &self.live {
-            None => Phase::Waiting,
-            Some(live) => {
-                if live.is_over() {
+            Some(flight) => {
+                if flight.is_ended() {
                     Phase::Ended
                 } else {
                     Phase::Running
                 }
             }
+            None => Phase::Waiting,
         }
     }
 
@@ -90,31 +97,75 @@ impl Exec {
             alloc: _,
             mission,
             history,
-            ticks: _,
+            failed: _,
             live: _,
         } = self;
         (mission, history)
     }
 
-    /// Takes a plan as the newest, where none was handed over yet. After want of memory nothing
-    /// has changed.
-    pub fn hand_over(&mut self, by: u32, offer: Offer) -> Reply
-        ensures done { result ≡ Reply.Done → Records self.old self.new by (Deed.Handover offer.extension offer.net) }
-        ensures other { result ≢ Reply.Done → self.new ≡ self.old }
-        ensures over { (result ≡ Reply.Over) ↔ (phase_of self.old.history ≡ Phase.Ended) }
+    /// Goes on to the next tick, where that is lawful. A point that has to be fired before is named;
+    /// where only a device could have kept a bound, the run has failed.
+    pub fn tick(&mut self, by: u32) -> Reply
+        ensures turn { Turn self.old.mission self.old.history by tick (reply_of result) self.new.history }
+        ensures mission { self.new.mission ≡ self.old.mission }
     {
-        if let Some(live) = &self.live {
-            return if live.is_over() {
-                Reply::Over
-            } else {
-                Reply::NotNext {
-                    current: 1,
-                    agree: 0,
-                }
-            };
+        let reply = self.answer_tick();
+        match reply {
+            Reply::Done => self.advance(by),
+            Reply::Failed { bound } => self.fail(by, Deed::Late(bound)),
+            _ => {}
         }
-        if !offer.mission.same(&self.mission) {
-            return Reply::OtherMission;
+        reply
+    }
+
+    /// Executes a point now, where it is lawful and no device tells it.
+    pub fn fire(&mut self, by: u32, point: PointId) -> Reply
+        ensures turn { Turn self.old.mission self.old.history by (fire point.0) (reply_of result) self.new.history }
+        ensures mission { self.new.mission ≡ self.old.mission }
+    {
+        let reply = self.answer_fire(point);
+        if let Reply::Done = reply {
+            self.execute(by, Deed::Fire(point), point);
+        }
+        reply
+    }
+
+    /// Takes a device's report that a point is executed now. Where that breaks a bound, the run has
+    /// failed.
+    pub fn report(&mut self, by: u32, point: PointId) -> Reply
+        ensures turn { Turn self.old.mission self.old.history by (report point.0) (reply_of result) self.new.history }
+        ensures mission { self.new.mission ≡ self.old.mission }
+    {
+        let reply = self.answer_report(point);
+        match reply {
+            Reply::Done => self.execute(by, Deed::Report(point), point),
+            Reply::Failed { bound } => self.fail(by, Deed::Early(bound)),
+            _ => {}
+        }
+        reply
+    }
+
+    /// Takes in that the device of a variable failed, which ends the run.
+    pub fn broken(&mut self, by: u32, device: SvId) -> Reply
+        ensures turn { Turn self.old.mission self.old.history by (broken device.0) (reply_of result) self.new.history }
+        ensures mission { self.new.mission ≡ self.old.mission }
+    {
+        let reply = self.answer_broken(device);
+        if let Reply::Done = reply {
+            self.fail(by, Deed::Broken(device));
+        }
+        reply
+    }
+
+    /// Takes a plan as the newest one, which is the one so far with one more extension. After want of
+    /// memory nothing has changed; where it is done, no later event up to the plan's horizon wants
+    /// memory.
+    pub fn hand_over(&mut self, by: u32, offer: Offer) -> Reply
+        ensures turn { Turn self.old.mission self.old.history by (handover offer.plan.mission offer.plan.plan.extensions) (reply_of result) self.new.history }
+        ensures mission { self.new.mission ≡ self.old.mission }
+    {
+        if let Some(refusal) = self.refusal_of(&offer) {
+            return refusal;
         }
         match self.take_in(by, offer) {
             Ok(()) => Reply::Done,
@@ -122,78 +173,163 @@ impl Exec {
         }
     }
 
+    /// The newest plan.
+    fn newest(&self) -> &[Extension]
+        ensures plan { result.now ≡ plan_of self.now.history }
+        ensures few { length result.now < 2 ^ 32 }
+    {
+        match &self.live {
+            Some(flight) => flight.plan.plan().extensions.as_slice(),
+            None => &[],
+        }
+    }
+
+    /// Why an offer isn't taken, where it isn't.
+    fn refusal_of(&self, offer: &Offer) -> Option<Reply>
+        ensures { MatchOption result (MayTake self.now offer.now.plan) (IsTurnedDown self.now offer.now.plan) }
+    {
+        match self.phase() {
+            Phase::Failed => return Some(Reply::Over),
+            Phase::Ended => return Some(Reply::Over),
+            _ => {}
+        }
+        let plan = offer.plan();
+        if !plan.mission().same(&self.mission) {
+            return Some(Reply::OtherMission);
+        }
+        not_next(self.newest(), plan.plan().extensions.as_slice())
+    }
+
+    /// Takes an offer in.
     fn take_in(&mut self, by: u32, offer: Offer) -> Result<(), Memory>
-        requires { self.old.history ≡ [] }
-        ensures ok { OnOk result (Records self.old self.new by (Deed.Handover offer.extension offer.net)) }
+        requires { MayTake self.old offer.plan }
+        ensures ok { OnOk result (Turn self.old.mission self.old.history by (handover offer.plan.mission offer.plan.plan.extensions) done self.new.history) }
+        ensures mission { self.new.mission ≡ self.old.mission }
         ensures err { OnErr result (self.new ≡ self.old) }
     {
-        let Offer {
-            mission: _,
+        if self.live.is_some() {
+            return Err(Memory);
+        }
+        self.history.reserve(entries_of(offer.plan()))?;
+        let Handed {
+            live,
             extension,
             net,
-            dist,
-        } = offer;
-        let mut times = unset(self.alloc, dist.points)?;
-        times[0] = Some(0);
+        } = offer.launch();
+        let Some(extension) = extension else {
+            return Err(Memory);
+        };
         let deed = Deed::Handover { extension, net };
-        self.history.push(Entry { by, deed })?;
-        self.live = Some(Live { dist, times });
+        self.history.push(Entry { by, deed }).unwrap();
+        self.live = Some(Flight::begin(live));
         Ok(())
     }
 
-    /// Executes a point now, where it may be. After want of memory nothing has changed.
-    #[tactic(auto, using(plan_laws::proofs::StateLemmas::plan_kept))]
-    pub fn fire(&mut self, by: u32, point: PointId) -> Reply
-        ensures done { result ≡ Reply.Done → Records self.old self.new by (Deed.Fire point) }
-        ensures other { result ≢ Reply.Done → self.new ≡ self.old }
-        ensures mission { self.new.mission ≡ self.old.mission }
-        ensures plan { plan_of self.new.history ≡ plan_of self.old.history }
-        ensures over { (result ≡ Reply.Over) ↔ (phase_of self.old.history ≡ Phase.Ended) }
-        ensures no_net { (result ≡ Reply.NoNet) ↔ (phase_of self.old.history ≡ Phase.Waiting) }
+    /// Why no event is taken that asks for a plan in execution, where none is.
+    fn refusal(&self) -> Option<Reply>
+        ensures { MatchOption result (phase_of self.now.history ≡ Phase.Running) (IsTurnedAway self.now) }
     {
-        let Some(live) = &mut self.live else {
-            return Reply::NoNet;
-        };
-        match live.refusal(point, self.ticks) {
+        match self.phase() {
+            Phase::Waiting => Some(Reply::NoNet),
+            Phase::Running => None,
+            Phase::Failed => Some(Reply::Over),
+            Phase::Ended => Some(Reply::Over),
+        }
+    }
+
+    /// How a tick is answered.
+    fn answer_tick(&mut self) -> Reply
+        ensures lawful { Replies self.old.mission self.old.history tick (reply_of result) }
+        ensures same { self.new ≡ self.old }
+    {
+        match self.refusal() {
             Some(refusal) => return refusal,
             None => {}
         }
-        let deed = Deed::Fire(point);
-        let Ok(()) = self.history.push(Entry { by, deed }) else {
-            return Reply::Memory;
-        };
-        live.times[point.0 as usize] = Some(self.ticks);
+        match &mut self.live {
+            Some(flight) => decide_tick(&mut flight.dispatch),
+            None => Reply::NoNet,
+        }
+    }
+
+    /// How the fire of a point is answered.
+    fn answer_fire(&mut self, point: PointId) -> Reply
+        ensures lawful { Replies self.old.mission self.old.history (fire point.0) (reply_of result) }
+        ensures same { self.new ≡ self.old }
+    {
+        match self.refusal() {
+            Some(refusal) => return refusal,
+            None => {}
+        }
+        match &mut self.live {
+            Some(flight) => decide_fire(&mut flight.dispatch, point),
+            None => Reply::NoNet,
+        }
+    }
+
+    /// How the report of a point is answered.
+    fn answer_report(&mut self, point: PointId) -> Reply
+        ensures lawful { Replies self.old.mission self.old.history (report point.0) (reply_of result) }
+        ensures same { self.new ≡ self.old }
+    {
+        match self.refusal() {
+            Some(refusal) => return refusal,
+            None => {}
+        }
+        match &mut self.live {
+            Some(flight) => decide_report(&mut flight.dispatch, point),
+            None => Reply::NoNet,
+        }
+    }
+
+    /// How the failure of a device is answered.
+    fn answer_broken(&self, device: SvId) -> Reply
+        ensures { Replies self.now.mission self.now.history (broken device.0) (reply_of result) }
+    {
+        match self.phase() {
+            Phase::Failed => return Reply::Over,
+            Phase::Ended => return Reply::Over,
+            _ => {}
+        }
+        if device.0 as usize >= self.mission.vars.len() {
+            return Reply::NoPoint;
+        }
         Reply::Done
     }
 
-    /// Goes on to the next tick, where nothing has to be executed before. After want of memory
-    /// nothing has changed.
-    #[tactic(auto, using(plan_laws::proofs::StateLemmas::plan_kept))]
-    pub fn tick(&mut self, by: u32) -> Reply
-        ensures done { result ≡ Reply.Done → Records self.old self.new by Deed.Tick }
-        ensures other { result ≢ Reply.Done → self.new ≡ self.old }
-        ensures mission { self.new.mission ≡ self.old.mission }
-        ensures plan { plan_of self.new.history ≡ plan_of self.old.history }
-        ensures over { (result ≡ Reply.Over) ↔ (phase_of self.old.history ≡ Phase.Ended) }
-        ensures no_net { (result ≡ Reply.NoNet) ↔ (phase_of self.old.history ≡ Phase.Waiting) }
+    /// Takes a tick.
+    fn advance(&mut self, by: u32)
+        requires { Replies self.old.mission self.old.history tick done }
+        ensures { self.new ≡ recording self.old by Deed.Tick }
     {
-        let Some(live) = &self.live else {
-            return Reply::NoNet;
-        };
-        if live.is_over() {
-            return Reply::Over;
-        }
-        if let Some(point) = live.due(self.ticks) {
-            return Reply::Due { point };
-        }
-        if self.ticks == i64::MAX {
-            return Reply::Memory;
-        }
         let deed = Deed::Tick;
-        let Ok(()) = self.history.push(Entry { by, deed }) else {
-            return Reply::Memory;
-        };
-        self.ticks += 1;
-        Reply::Done
+        self.history.push(Entry { by, deed }).unwrap();
+        match &mut self.live {
+            Some(flight) => flight.dispatch.advance(),
+            None => {}
+        }
+    }
+
+    /// Executes a point now.
+    fn execute(&mut self, by: u32, deed: Deed, point: PointId)
+        requires may { MayRecord self.old deed }
+        requires is { executes deed ≡ Some point }
+        ensures { self.new ≡ recording self.old by deed }
+    {
+        self.history.push(Entry { by, deed }).unwrap();
+        match &mut self.live {
+            Some(flight) => flight.dispatch.set(point),
+            None => {}
+        }
+    }
+
+    /// Ends the run by a failure.
+    fn fail(&mut self, by: u32, deed: Deed)
+        requires may { MayRecord self.old deed }
+        requires failure { is_failure deed ≡ true }
+        ensures { self.new ≡ recording self.old by deed }
+    {
+        self.failed = true;
+        self.history.push(Entry { by, deed }).unwrap();
     }
 }

@@ -1,14 +1,15 @@
 //! The executive: a mission, its newest plan, and the history of what was done.
 #![tactic(auto)]
 
-mod dist;
+mod decide;
+mod event;
 mod exec;
-mod live;
-mod network;
-mod offer;
-mod points;
+mod flight;
+mod kernel;
+mod next;
 mod reply;
 
+pub use event::Event;
 pub use exec::Exec;
-pub use offer::{Offer, Unfit};
+pub use horizon_handover::{Offer, prepare};
 pub use reply::Reply;

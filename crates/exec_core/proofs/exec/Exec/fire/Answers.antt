@@ -1,9 +1,11 @@
-use Rattle.std.proofs.Common.{◌≡◌, ap, refl, arith}
-use Rattle.std.specs.Option.{option_map}
-use Rattle.std.proofs.lemmas.Int.{ints}
-use Rattle.exec_core.proofs.KeptLemmas.{fired_kept}
+use Rattle.std.proofs.Common.{◌≡◌, refl, ap}
+use Rattle.hs_base.specs.declared.history.Deed.TheVariants.{Fire}
+use Rattle.hs_base.specs.Machine.{fire}
+use Rattle.exec_core.specs.Replies.{reply_of}
+use Rattle.exec_core.proofs.LawfulLemmas.{turn_by}
 use Rattle.exec_core.proofs.exec.Exec.fire.Goals as goal
 
-pub invariant_of-self-2 : goal.invariant_of-self-2
-invariant_of-self-2 c =
-    fired_kept c.self.inside.history.items c.push.new.self.items c.args.by c.args.point c.self.inside.ticks _ _ c.in-Some.live.times.items c.in-Ok.ensures.items c.self.invariant (ap (option_map (λ l. l.times.items)) c.in-Some.is) (omega (arith, c.in-None.ensures.none.0, c.in-Some.live.times.ok.0)) c.in-None.ensures.none.1 (omega (arith, ints))
+pub returns-in-Done-clause-turn : goal.returns-in-Done-clause-turn
+returns-in-Done-clause-turn c =
+    turn_by c.args.self.now c.answer_fire-reply.new.self c.execute.new.self c.args.by (fire c.args.point.0) (reply_of c.answer_fire-reply.result) (Fire c.args.point)
+    c.answer_fire-reply.ensures.same c.answer_fire-reply.ensures.lawful (refl, ap reply_of c.in-Done.is) c.execute.ensures

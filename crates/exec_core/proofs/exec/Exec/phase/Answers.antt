@@ -1,18 +1,15 @@
-use Rattle.std.proofs.Common.{◌≡◌, Bool, true, false, sym, subst, ◌∙◌, ap}
-use Rattle.std.specs.Option.{option_map}
+use Rattle.std.proofs.Common.{◌≡◌, true, false, sym, subst}
 use Rattle.hs_base.specs.State.{phase_of}
-use Rattle.hs_base.specs.declared.history.Phase.{Phase}
 use Rattle.hs_base.specs.declared.history.Phase.TheVariants.{Running, Ended}
 use Rattle.exec_core.specs.Recorded.{Recorded}
-use Rattle.exec_core.proofs.KeptLemmas.{phase_kept}
+use Rattle.exec_core.proofs.KeptLemmas.{mark_in, phase_if_flying}
 use Rattle.exec_core.proofs.exec.Exec.phase.Goals as goal
 
-pub returns-then-is_over : goal.returns-then-is_over
-returns-then-is_over c =
-    let seen : phase_of c.self.inside.history.items ≡ Ended = phase_kept _ _ _ c.in-Some.live.times.items true c.self.invariant (ap (option_map (λ l. l.times.items)) c.in-Some.is) c.if-is_over.ensures in
-    subst (λ (r : Recorded). Ended ≡ phase_of r.history) c.self.view_is (sym seen)
+pub is_ended-requires : goal.is_ended-requires
+is_ended-requires c = mark_in c.self.inside c.self.invariant c.in-Some.flight c.in-Some.is
 
-pub returns-else-is_over : goal.returns-else-is_over
-returns-else-is_over c =
-    let seen : phase_of c.self.inside.history.items ≡ Running = phase_kept _ _ _ c.in-Some.live.times.items false c.self.invariant (ap (option_map (λ l. l.times.items)) c.in-Some.is) c.if-is_over.ensures in
-    subst (λ (r : Recorded). Running ≡ phase_of r.history) c.self.view_is (sym seen)
+pub returns-then-is_ended : goal.returns-then-is_ended
+returns-then-is_ended c = subst (λ (r : Recorded). Ended ≡ phase_of r.history) c.self.view_is (sym (phase_if_flying c.self.inside c.self.invariant c.in-Some.flight true c.if-self.false c.in-Some.is c.if-is_ended.ensures))
+
+pub returns-else-is_ended : goal.returns-else-is_ended
+returns-else-is_ended c = subst (λ (r : Recorded). Running ≡ phase_of r.history) c.self.view_is (sym (phase_if_flying c.self.inside c.self.invariant c.in-Some.flight false c.if-self.false c.in-Some.is c.if-is_ended.ensures))

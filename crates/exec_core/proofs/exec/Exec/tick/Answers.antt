@@ -1,9 +1,19 @@
-use Rattle.std.proofs.Common.{◌≡◌, ap, refl, arith}
-use Rattle.std.specs.Option.{option_map}
-use Rattle.std.proofs.lemmas.Int.{ints}
-use Rattle.exec_core.proofs.KeptLemmas.{ticked_kept}
+use Rattle.std.proofs.Common.{◌≡◌, refl, ap}
+use Rattle.hs_base.specs.declared.history.Deed.TheVariants.{Tick, Late}
+use Rattle.hs_base.specs.Machine.{tick, failed}
+use Rattle.exec_core.specs.Replies.{reply_of}
+use Rattle.exec_core.proofs.LawfulLemmas.{turn_by, may_leave}
 use Rattle.exec_core.proofs.exec.Exec.tick.Goals as goal
 
-pub invariant_of-self-2 : goal.invariant_of-self-2
-invariant_of-self-2 c =
-    ticked_kept c.self.inside.history.items c.push.new.self.items c.args.by c.self.inside.ticks _ _ c.in-Some.live.times.items c.in-Ok.ensures.items c.self.invariant (ap (option_map (λ l. l.times.items)) c.in-Some.is) (omega (arith, ints))
+pub fail-requires-clause-may : goal.fail-requires-clause-may
+fail-requires-clause-may c = may_leave c.args.self.now c.answer_tick-reply.new.self tick (failed c.in-Failed.bound) (Late c.in-Failed.bound) c.answer_tick-reply.ensures.same c.in-Failed.ensures.lawful (refl, refl)
+
+pub returns-in-Done-clause-turn : goal.returns-in-Done-clause-turn
+returns-in-Done-clause-turn c =
+    turn_by c.args.self.now c.answer_tick-reply.new.self c.advance.new.self c.args.by tick (reply_of c.answer_tick-reply.result) Tick
+    c.answer_tick-reply.ensures.same c.answer_tick-reply.ensures.lawful (refl, ap reply_of c.in-Done.is) c.advance.ensures
+
+pub returns-in-Failed-clause-turn : goal.returns-in-Failed-clause-turn
+returns-in-Failed-clause-turn c =
+    turn_by c.args.self.now c.answer_tick-reply.new.self c.fail.new.self c.args.by tick (failed c.in-Failed.bound) (Late c.in-Failed.bound)
+    c.answer_tick-reply.ensures.same c.in-Failed.ensures.lawful (refl, refl) c.fail.ensures

@@ -1,0 +1,86 @@
+ghost use Rattle.std.specs.Prelude.{◌≡◌, ◌<◌, ◌≤◌, None, MatchOption};
+ghost use Rattle.dispatcher.specs.State.{points, time_in, IsOpen};
+ghost use Rattle.exec_laws.specs.Decisions.{DecidesTick, DecidesFire, DecidesReport, DecidesOwn};
+ghost use Rattle.exec_core.specs.Replies.{reply_of};
+ghost use Rattle.exec_core.specs.Refused.{IsRefused};
+
+use crate::Reply;
+use dispatcher::Dispatch;
+use hs_base::PointId;
+
+/// How a tick is answered.
+pub fn decide_tick(dispatch: &mut Dispatch) -> Reply
+    ensures reply { DecidesTick dispatch.old (reply_of result) }
+    ensures same { dispatch.new ≡ dispatch.old }
+{
+    if dispatch.may_tick() {
+        return Reply::Done;
+    }
+    if let Some(point) = dispatch.must_fire() {
+        return Reply::Due { point };
+    }
+    match dispatch.late() {
+        Some(bound) => Reply::Failed { bound },
+        None => Reply::Done,
+    }
+}
+
+/// Why no event of that point is looked at, where it doesn't exist or was executed.
+fn refusal_of(dispatch: &Dispatch, point: PointId) -> Option<Reply>
+    ensures { MatchOption result (IsOpen dispatch.now point.0) (IsRefused dispatch.now point.0) }
+{
+    if point.0 as usize >= dispatch.points() {
+        return Some(Reply::NoPoint);
+    }
+    let at = dispatch.time(point)?;
+    Some(Reply::Already { at })
+}
+
+/// How the fire of an open point that isn't observed is answered.
+fn decide_own(dispatch: &mut Dispatch, point: PointId) -> Reply
+    requires { IsOpen dispatch.old point.0 }
+    ensures reply { DecidesOwn dispatch.old point.0 (reply_of result) }
+    ensures same { dispatch.new ≡ dispatch.old }
+{
+    if let Some(point) = dispatch.tied(point) {
+        return Reply::Waits { point };
+    }
+    match dispatch.may_fire(point) {
+        Ok(()) => Reply::Done,
+        Err(bound) => Reply::NotYet { bound },
+    }
+}
+
+/// How the fire of a point is answered.
+pub fn decide_fire(dispatch: &mut Dispatch, point: PointId) -> Reply
+    ensures reply { DecidesFire dispatch.old point.0 (reply_of result) }
+    ensures same { dispatch.new ≡ dispatch.old }
+{
+    match refusal_of(dispatch, point) {
+        Some(refusal) => refusal,
+        None => {
+            if dispatch.is_observed(point) {
+                Reply::Observed
+            } else {
+                decide_own(dispatch, point)
+            }
+        }
+    }
+}
+
+/// How the report of a point is answered.
+pub fn decide_report(dispatch: &mut Dispatch, point: PointId) -> Reply
+    ensures reply { DecidesReport dispatch.old point.0 (reply_of result) }
+    ensures same { dispatch.new ≡ dispatch.old }
+{
+    if let Some(refusal) = refusal_of(dispatch, point) {
+        return refusal;
+    }
+    if !dispatch.is_observed(point) {
+        return Reply::NotObserved;
+    }
+    match dispatch.may_fire(point) {
+        Ok(()) => Reply::Done,
+        Err(bound) => Reply::Failed { bound },
+    }
+}

@@ -1,0 +1,34 @@
+use crate::{Event, Exec, Reply};
+use hs_base::Core;
+
+impl Core for Exec {
+    type Event = Event;
+
+    type Reply = Reply;
+
+    ghost use Rattle.hs_base.specs.Machine.{Turn};
+    ghost use Rattle.exec_core.specs.Replies.{reply_of};
+    ghost use Rattle.exec_core.specs.Events.{event_of};
+
+    ghost opening = { λ e. e.mission };
+
+    ghost history = { λ e. e.history };
+
+    // A turn of the schedule machine.
+    ghost turn = { λ m before by event reply after. Turn m before by (event_of event) (reply_of reply) after };
+
+    #[tactic(auto, using(crate::proofs::TurnLemmas::turn_appends))]
+    fn apply(&mut self, by: u32, event: Event) -> Reply {
+        match event {
+            Event::Tick => self.tick(by),
+            Event::Fire(point) => self.fire(by, point),
+            Event::Report(point) => self.report(by, point),
+            Event::Broken(device) => self.broken(by, device),
+            Event::Handover(offer) => self.hand_over(by, offer),
+        }
+    }
+
+    fn front(&self) -> u64 {
+        self.history().len() as u64
+    }
+}

@@ -1,0 +1,184 @@
+-- A running state goes on: a tick, some fire or some report is answered with Done.
+use Rattle.std.proofs.Common.{◌≡◌, ◌≢◌, ℕ, zero, suc, ◌+◌, ◌<◌, ◌≤◌, Bool, true, false, not, cond, nat_eq, nat_le, List, [], ◌∷◌, ◌++◌, Option, Some, None, refl, sym, ap, ◌∙◌, subst, arith, inl, inr, ◌⊎◌, add-zero, pos}
+use Rattle.std.proofs.lemmas.Int.{ints}
+use Rattle.std.proofs.lemmas.Bool.{cases_Bool, eqb-true}
+use Rattle.std.proofs.lemmas.Bool.Decides.{nat_tests}
+use Rattle.std.proofs.lemmas.Option.{slice_get_within}
+use Rattle.std.specs.Prelude.{ℤ, ◌+ℤ◌, ◌≤ℤ◌, slice_get}
+use Rattle.hs_base.specs.declared.ids.PointId.{PointId}
+use Rattle.hs_base.specs.declared.mission.Mission.{Mission}
+use Rattle.hs_base.specs.declared.plan.Extension.{Extension}
+use Rattle.hs_base.specs.declared.net.Net.{Net}
+use Rattle.hs_base.specs.declared.history.Entry.{Entry}
+use Rattle.hs_base.specs.declared.history.Deed.{Deed}
+use Rattle.hs_base.specs.declared.history.Deed.TheVariants.{Tick, Fire, Report, Handover, Stale, Late, Early, Broken}
+use Rattle.hs_base.specs.declared.history.Phase.TheVariants.{Running}
+use Rattle.hs_base.specs.Points.{Point, count, points_of, device_ends, is_observed}
+use Rattle.hs_base.specs.Bounds.{bounds_of}
+use Rattle.hs_base.specs.Network.{spread}
+use Rattle.hs_base.specs.Reduced.{IsReducedOf}
+use Rattle.hs_base.specs.Fits.{put, time_at, IsDue, LateBound}
+use Rattle.hs_base.specs.Dispatch.{IsReached}
+use Rattle.hs_base.specs.State.{now_of, plan_of, times_of, count_at, bounds_at, executed, tick_at, watched, phase_of, executes, hands_over, is_tick}
+use Rattle.hs_base.specs.Machine.{Event, Reply, tick, fire, report, handover, done, due, over, no_net, MayGoOn, MayFire, MustFire, IsTied, Replies, EventReply, HandoverReply, FireReply, IsLeftBy}
+use Rattle.hs_base.specs.Run.{MayAdd, Run}
+use Rattle.base_laws.proofs.ListLemmas.{snoc_induction}
+use Rattle.base_laws.proofs.PointLemmas.{count-push}
+use Rattle.plan_laws.proofs.StateLemmas.{plan_kept, plan_handed, times_kept, executed-put, now_of-push}
+use Rattle.plan_laws.proofs.RunLemmas.{run_fits, event_reply, offered_base, otherwise}
+use Rattle.net_laws.proofs.ExactLemmas.{exact, reduced_again}
+use Rattle.net_laws.proofs.AnswerLemmas.{fits_both}
+use Rattle.net_laws.proofs.MoveLemmas.{tick_or}
+use Rattle.exec_laws.specs.Running.{GoesOn}
+use Rattle.exec_laws.proofs.SameLemmas as same
+use Rattle.exec_laws.proofs.SameLemmas.{HaveSame}
+use Rattle.exec_laws.proofs.StepLemmas.{running, replies_running}
+use Rattle.exec_laws.proofs.ReplyLemmas.{answered_running, may_execute}
+
+-- a reduced network of the newest plan
+pub record HasNet (m : Mission) (h : List Entry) : Type 0 where
+  pub net : Net
+  pub reduced : IsReducedOf (count_at h) (bounds_at m h) net
+
+-- a handover's plan is the one before it with its extension
+pub handed_plan : (m : Mission) (h : List Entry) (e : Extension) (n : Net) (event : Event) (reply : Reply) → Replies m h event reply → (left : IsLeftBy m (Handover e n) event reply) → left.0 ≡ plan_of h
+handed_plan m h e n event reply lawful left =
+    let here : Replies m h (handover m (left.0 ++ e ∷ [])) done = rw (left.1, left.2) at lawful in
+    let r : HandoverReply m h m (left.0 ++ e ∷ []) done = event_reply m h (handover m (left.0 ++ e ∷ [])) here in
+    offered_base left.0 (plan_of h) e r.1.1
+
+net_on : (m : Mission) (es fs : List Extension) (n : Net) → es ≡ fs → IsReducedOf (count es) (bounds_of m es) n → IsReducedOf (count fs) (bounds_of m fs) n
+net_on m es fs n same r = subst (λ (l : List Extension). IsReducedOf (count l) (bounds_of m l) n) same r
+
+net_push : (m : Mission) (h : List Entry) (by : ℕ) (d : Deed) (event : Event) (reply : Reply) → Replies m h event reply → IsLeftBy m d event reply → (plan_of h ≢ [] → HasNet m h) → plan_of (h ++ record { by = by; deed = d } ∷ []) ≢ [] → HasNet m (h ++ record { by = by; deed = d } ∷ [])
+net_push m h by (Handover e n) event reply lawful left had some =
+    let x : Entry = record { by = by; deed = Handover e n } in
+    let base = handed_plan m h e n event reply lawful left in
+    record { net = n; reduced = net_on m (left.0 ++ e ∷ []) (plan_of (h ++ x ∷ [])) n (ap (λ l. l ++ e ∷ []) base ∙ sym (plan_handed h x e refl)) left.3 }
+net_push m h by d event reply lawful left had some = kept (hands_over d) refl
+  where
+    kept : (o : Option Extension) → hands_over d ≡ o → HasNet m (h ++ record { by = by; deed = d } ∷ [])
+    kept None none =
+        let x : Entry = record { by = by; deed = d } in
+        let plan = plan_kept h x none in
+        let k = had (λ (e : plan_of h ≡ []). some (plan ∙ e)) in
+        record { net = k.net; reduced = net_on m (plan_of h) (plan_of (h ++ x ∷ [])) k.net (sym plan) k.reduced }
+    kept (Some e) is = absurd (cc)
+
+pub net_of : (m : Mission) (h : List Entry) → Run m h → plan_of h ≢ [] → HasNet m h
+net_of m h run = snoc_induction (λ h. plan_of h ≢ [] → HasNet m h) (MayAdd m) (λ before e a had. net_push m before e.by e.deed a.event a.reply a.answers.lawful a.answers.leaves.1 had) [] h (λ some. absurd (some refl)) run.entries
+
+-- executed points are points of the plan, and none is executed later than now
+pub record AreExecuted (h : List Entry) : Type 0 where
+  pub within : (x : ℕ) (t : ℤ) → executed h x ≡ Some t → x < count_at h
+  pub late : (x : ℕ) (t : ℤ) → executed h x ≡ Some t → t ≤ℤ tick_at h
+
+-- nothing but Z is executed at first
+pub first_none : (x : ℕ) → executed [] (suc x) ≡ None
+first_none x = let other : nat_eq 0 (suc x) ≡ false = grind (arith, nat_tests) in rw other refl
+
+executed_push : (m : Mission) (h : List Entry) (e : Entry) → MayAdd m h e → AreExecuted h → AreExecuted (h ++ e ∷ [])
+executed_push m h e adds k = by_case (executes e.deed) refl
+  where
+    plan_grows : count_at h ≤ count_at (h ++ e ∷ [])
+    plan_grows = by_plan (hands_over e.deed) refl
+      where
+        by_plan : (o : Option Extension) → hands_over e.deed ≡ o → count_at h ≤ count_at (h ++ e ∷ [])
+        by_plan None none = omega (arith, ap count (plan_kept h e none))
+        by_plan (Some x) is = omega (arith, ap count (plan_handed h e x is), count-push (plan_of h) x)
+
+    clock_grows : tick_at h ≤ℤ tick_at (h ++ e ∷ [])
+    clock_grows = omega (arith, ints, now_of-push h e)
+
+    by_case : (o : Option PointId) → executes e.deed ≡ o → AreExecuted (h ++ e ∷ [])
+    by_case None none = record {
+      within = λ x t is. let old = k.within x t (sym (ap (λ ts. time_at ts x) (times_kept h e none)) ∙ is) in omega (arith, old, plan_grows);
+      late = λ x t is. let old = k.late x t (sym (ap (λ ts. time_at ts x) (times_kept h e none)) ∙ is) in omega (arith, ints, old, clock_grows);
+    }
+    by_case (Some y) ex =
+        let may = may_execute m h e.deed y adds.event adds.reply adds.answers.lawful adds.answers.leaves.1 ex in
+        let there : (x : ℕ) → executed (h ++ e ∷ []) x ≡ put (executed h) y.0 (pos (now_of h)) x = λ x. executed-put h e y x ex may.none in
+        record {
+          within = λ x t is. elim (cases_Bool (nat_eq x y.0)) [
+            | inl same ↦ omega (arith, eqb-true x y.0 same, may.below, plan_grows)
+            | inr other ↦ let old = k.within x t (rw other at (sym (there x) ∙ is)) in omega (arith, old, plan_grows)
+          ];
+          late = λ x t is. elim (cases_Bool (nat_eq x y.0)) [
+            | inl same ↦ let now : Some (pos (now_of h)) ≡ Some t = rw same at (sym (there x) ∙ is) in let value : pos (now_of h) ≡ t = cc in omega (arith, ints, value, clock_grows)
+            | inr other ↦ let old = k.late x t (rw other at (sym (there x) ∙ is)) in omega (arith, ints, old, clock_grows)
+          ];
+        }
+
+pub executed_in : (m : Mission) (h : List Entry) → Run m h → AreExecuted h
+executed_in m h run = snoc_induction AreExecuted (MayAdd m) (executed_push m) [] h (record { within = first_within; late = first_late }) run.entries
+  where
+    first_within : (x : ℕ) (t : ℤ) → executed [] x ≡ Some t → x < count_at []
+    first_within zero t is = omega arith
+    first_within (suc x) t is = absurd (let e : None ≡ Some t = sym (first_none x) ∙ is in cc)
+
+    first_late : (x : ℕ) (t : ℤ) → executed [] x ≡ Some t → t ≤ℤ tick_at []
+    first_late zero t is = let e : Some (pos 0) ≡ Some t = is in let value : pos 0 ≡ t = cc in omega (arith, ints, value)
+    first_late (suc x) t is = absurd (let e : None ≡ Some t = sym (first_none x) ∙ is in cc)
+
+-- an observed point is one of the plan
+observed_below : (m : Mission) (es : List Extension) (x : ℕ) → is_observed m es x ≡ true → x < count es
+observed_below m es x is = by_case (slice_get (points_of es) x) refl is
+  where
+    by_case : (o : Option Point) → slice_get (points_of es) x ≡ o → device_ends m es o ≡ true → x < count es
+    by_case None at is = absurd (let e : false ≡ true = is in cc)
+    by_case (Some p) at is = slice_get_within (points_of es) x p at
+
+module _ (m : Mission) (h : List Entry) (run : Run m h) (is : phase_of h ≡ Running) where
+  -- the fire of a point that may be executed, and its report
+  pub fire_done : (x : ℕ) → x < count_at h → executed h x ≡ None → watched m h x ≡ false → (IsTied m h x → ⊥) → MayFire m h x → Replies m h (fire x) done
+  fire_done x below none free untied may =
+      let there : nat_le (count_at h) x ≡ false = grind (arith, nat_tests) in
+      replies_running m h (fire x) done is (rw (there, none, free) (untied, may))
+
+  pub report_done : (x : ℕ) → x < count_at h → executed h x ≡ None → watched m h x ≡ true → MayFire m h x → Replies m h (report x) done
+  report_done x below none seen may =
+      let there : nat_le (count_at h) x ≡ false = grind (arith, nat_tests) in
+      replies_running m h (report x) done is (rw (there, none, seen) may)
+
+  -- a point that must be fired may be fired
+  pub due_fires : (some : plan_of h ≢ []) (x : ℕ) → MustFire m h x → Replies m h (fire x) done
+  due_fires some x d =
+      let f = run_fits m h run some in
+      fire_done x d.below d.none d.free (λ t. d.untied t.0 t.1.below t.1.watched t.1.waiting t.1.other t.1.together) (record { s = f.s; fits = f.fits; here = d.forced.each f.s f.fits })
+
+  -- a late bound's point may be reported
+  late_reports : (some : plan_of h ≢ []) → LateBound (count_at h) (bounds_at m h) (executed h) (tick_at h) (watched m h) → (x : ℕ) × Replies m h (report x) done
+  late_reports some l =
+      let f = run_fits m h run some in
+      let below = observed_below m (plan_of h) l.to l.watched in
+      let step = l.tight.implied.holds f.s f.fits.meets in
+      let from = f.fits.past l.from l.at_from l.set in
+      let after = f.fits.future l.to below l.open_to in
+      (l.to, report_done l.to below l.open_to l.watched (record { s = f.s; fits = f.fits; here = omega (arith, ints, step, from, after, l.late) }))
+
+  reached : (some : plan_of h ≢ []) (k : HasNet m h) → IsReached (count_at h) k.net (executed h) (tick_at h)
+  reached some k =
+      let f = run_fits m h run some in
+      let e = executed_in m h run in
+      record { origin = refl; within = e.within; late = e.late; some = f.s; fits = (fits_both (count_at h) (bounds_at m h) k.net k.reduced (executed h) (tick_at h) f.s).0 f.fits }
+
+  pub goes_on : plan_of h ≢ [] → GoesOn m h
+  goes_on some =
+      let k = net_of m h run some in
+      let has : HaveSame (spread k.net) (bounds_at m h) = record { there = λ t meets. (exact (count_at h) (bounds_at m h) k.net k.reduced t).0 meets; back = λ t meets. (exact (count_at h) (bounds_at m h) k.net k.reduced t).1 meets } in
+      record {
+        done = elim (tick_or (count_at h) k.net (reduced_again (count_at h) (bounds_at m h) k.net k.reduced) (executed h) (tick_at h) (reached some k) (watched m h)) [
+          | inl may ↦ inl (replies_running m h tick done is (same.tick (spread k.net) (bounds_at m h) has (count_at h) (executed h) (tick_at h) may))
+          | inr r ↦ inr (elim r [
+            | inl d ↦ inl (d.0, due_fires some d.0 (same.due (spread k.net) (bounds_at m h) has (count_at h) (executed h) (tick_at h) (watched m h) d.0 d.1))
+            | inr l ↦ inr (late_reports some (same.late (spread k.net) (bounds_at m h) has (count_at h) (executed h) (tick_at h) (watched m h) l))
+          ])
+        ];
+      }
+
+-- a due point may be fired
+pub due_done : (m : Mission) (h : List Entry) → Run m h → (x : ℕ) → Replies m h tick (due x) → Replies m h (fire x) done
+due_done m h run x lawful =
+    let is = answered_running m h tick (due x) lawful refl (λ (e : due x ≡ over). cc) (λ (e : due x ≡ no_net). cc) in
+    let r : EventReply m h tick (due x) = otherwise _ _ _ (otherwise _ _ _ lawful (λ (e : due x ≡ over). cc)) (λ (e : due x ≡ no_net). cc) in
+    due_fires m h run is (running h is).some x r.1

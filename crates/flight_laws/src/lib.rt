@@ -1,0 +1,6 @@
+//! Laws of flights: that they go on, are eager, and end by firing their horizon's point.
+#![tactic(auto)]
+
+mod flights;
+
+pub use flights::{a_flight_begins_with_its_plan, a_flight_ends_at_its_horizon};
