@@ -2,7 +2,7 @@ ghost use Rattle.std.specs.Prelude.{◌≡◌, ◌+◌, ◌<◌, ◌^◌, ◌++�
 ghost use Rattle.hs_base.specs.State.{count_at, plan_of};
 ghost use Rattle.exec_main.specs.Flights.{EndsByFiring, EndsAtLastHorizon};
 
-use exec_core::{Exec, Offer, Reply};
+use first_exec::{Exec, Offer, Reply};
 use hs_base::{Entry, LAST_HORIZON, Memory, Mission, PointId};
 use std::alloc::Global;
 

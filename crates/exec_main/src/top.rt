@@ -9,7 +9,7 @@ ghost use Rattle.exec_main.specs.declared.top.Stop.TheVariants.{Memory as NoMemo
 use crate::Status;
 use crate::flight::fly;
 use crate::streams::{Unread, read_whole, write_whole};
-use exec_core::{Offer, Unfit};
+use first_exec::{Offer, Unfit};
 use first_text::read_first;
 use hs_base::{Memory, Mission, Text};
 use hs_port::{Device, Sink, Source};

@@ -2,7 +2,7 @@ use Rattle.std.proofs.Common.{◌≡◌, ◌+◌, ◌<◌, ◌^◌, List, [], �
 use Rattle.hs_base.specs.declared.mission.Mission.{Mission}
 use Rattle.hs_base.specs.declared.history.Entry.{Entry}
 use Rattle.hs_base.specs.State.{plan_of, count_at}
-use Rattle.exec_core.specs.Recorded.{Recorded}
+use Rattle.first_exec.specs.Recorded.{Recorded}
 use Rattle.exec_main.specs.Flights.{EndsAtLastHorizon}
 use Rattle.exec_main.proofs.FlightLemmas.{ends_at, few_points}
 use Rattle.exec_main.proofs.flight.fly.Goals as goal
