@@ -1,0 +1,12 @@
+pub mod BeginLemmas
+pub mod CellLemmas
+pub mod NameLemmas
+pub mod NewNameLemmas
+pub mod NodeLemmas
+pub mod PartLemmas
+pub mod PlanOfNode
+pub mod RangeLemmas
+pub mod RootLemmas
+pub mod SizeLemmas
+pub mod SoundLemmas
+pub mod UndoLemmas
