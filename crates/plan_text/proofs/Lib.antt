@@ -13,3 +13,5 @@ pub mod OneAnswerLemmas
 pub mod CountLemmas
 pub mod MeaningLemmas
 pub mod PlanAnswerLemmas
+pub mod SpellingLemmas
+pub mod CheckedLemmas

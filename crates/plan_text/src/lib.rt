@@ -20,7 +20,10 @@ mod written;
 mod written_plan;
 
 pub use body::push_body;
-pub use laws::{a_plan_text_has_one_answer, a_plan_text_spells_one_plan, plans_are_read};
+pub use laws::{
+    a_plan_text_has_one_answer, a_plan_text_spells_one_plan, checked_plans_are_writable,
+    plans_are_read, plans_are_read_back,
+};
 pub use names::{PointName, PointNames};
 pub use nets::{push_counts, write_net};
 pub use parts::{

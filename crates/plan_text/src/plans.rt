@@ -2,9 +2,9 @@ ghost use Rattle.std.specs.Prelude.{◌≡◌, ◌++◌, ◌^◌, ◌<◌, ◌�
 ghost use Rattle.hs_base.specs.declared.limits.TheConstants.{TEXT_BYTES};
 ghost use Rattle.hs_base.specs.Points.{Point, count, points_of};
 ghost use Rattle.hs_base.specs.PlanText.{extension_in, plan_text};
-ghost use Rattle.hs_base.specs.PlanSpelling.{PlanSpells};
 ghost use Rattle.hs_base.specs.Written.{point_text as text_of_point};
 ghost use Rattle.text_laws.specs.WritablePlans.{IsWritablePlan};
+ghost use Rattle.plan_text.specs.PlanSpelling.{PlanSpells};
 
 use crate::PointNames;
 use crate::body::push_body;
@@ -28,8 +28,9 @@ fn push_extension(
 
 /// The text of a plan. A name that the mission doesn't have is left out.
 ///
-/// Where the plan's tokens, points and numbers are such that texts can name them, its text spells
-/// it, unless it is longer than [`hs_base::TEXT_BYTES`].
+/// Where the plan's tokens, points and numbers are such that texts can name them, as those of a
+/// checked plan are, [`crate::read`]
+/// reads it back from its text, unless that is longer than [`hs_base::TEXT_BYTES`].
 pub fn write(alloc: Global, mission: &Mission, plan: &Plan) -> Result<Text, Memory>
     requires { count plan.now.extensions < 2 ^ 32 }
     ensures text { IfOk result (λ text. text ≡ plan_text mission.now plan.now.extensions) }
