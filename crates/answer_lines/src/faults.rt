@@ -3,6 +3,7 @@ ghost use Rattle.std.specs.Fmt.{decimal};
 ghost use Rattle.hs_base.specs.Points.{count};
 ghost use Rattle.hs_base.specs.Written.{variable_name, bound_in, bound_text};
 ghost use Rattle.hs_base.specs.RefusalText.{fault_lines, fault_text};
+ghost use Rattle.answer_lines.specs.Naming.{NamesPoints};
 
 use crate::lines::{push_last, push_numbered, push_part};
 use hs_base::{Bound, Extension, Fault, Memory, Mission, SvId, Text};
@@ -83,7 +84,7 @@ fn push_lines(
     extensions: &[Extension],
     fault: &Fault,
 ) -> Result<(), Memory>
-    requires { count extensions.now < 2 ^ 32 }
+    requires { NamesPoints fault.now → count extensions.now < 2 ^ 32 }
     ensures { OnOk result (text.new ≡ text.old ++ fault_lines mission.now extensions.now fault.now) }
 {
     match fault {
@@ -109,7 +110,7 @@ pub fn push_fault(
     extensions: &[Extension],
     fault: &Fault,
 ) -> Result<(), Memory>
-    requires { count extensions.now < 2 ^ 32 }
+    requires { NamesPoints fault.now → count extensions.now < 2 ^ 32 }
     ensures { OnOk result (text.new
         ≡ text.old ++ fault_text mission.now extensions.now (length extensions.now) fault.now) }
 {
@@ -125,7 +126,7 @@ pub fn fault_line(
     extensions: &[Extension],
     fault: &Fault,
 ) -> Result<Text, Memory>
-    requires { count extensions.now < 2 ^ 32 }
+    requires { NamesPoints fault.now → count extensions.now < 2 ^ 32 }
     ensures { IfOk result
         (λ text. text ≡ fault_text mission.now extensions.now (length extensions.now) fault.now) }
 {

@@ -1,0 +1,72 @@
+-- What each command makes of a good input.
+use Rattle.std.proofs.Common.{◌≡◌, ℕ, List, length, refl, sym, ap, ◌∙◌, subst, inl, inr}
+use Rattle.hs_base.specs.declared.ast.Ast.{Ast}
+use Rattle.hs_base.specs.declared.mission.Mission.{Mission}
+use Rattle.hs_base.specs.declared.plan.Extension.{Extension}
+use Rattle.hs_base.specs.CanonicalText.{canonical}
+use Rattle.hs_base.specs.Checked.{Checked}
+use Rattle.hs_base.specs.ClosingText.{checked_line}
+use Rattle.hs_base.specs.MissionSpelling.{IsMissionRefusal, IsRefusalOf}
+use Rattle.text_laws.proofs.RefusalLemmas.{spelled_one, spelled_or_refused}
+use Rattle.domain_check.proofs.RuleLemmas.{not_meant}
+use Rattle.commands.specs.Inputs.{IsGiven, IsRefused}
+use Rattle.commands.specs.Prints.{IsAccepted, IsPrinted, Prints}
+use Rattle.commands.specs.Checks.{IsSound, Judges, Checks}
+use Rattle.commands.specs.Sims.{IsPlain, IsFlown, Runs, Sims}
+use Rattle.commands.specs.declared.status.Status.{Status}
+use Rattle.commands.specs.declared.status.Status.TheVariants.{Done, Usage, Refused, ReadFault, WriteFault, NoMemory, PlanRefused}
+use Rattle.commands.proofs.GivenLemmas.{given_one, given_or_refused, given_or_alone, behind_or_refused}
+use Rattle.commands.proofs.FrontLemmas.{in_front_or_refused}
+use Rattle.commands.proofs.SoundLemmas.{checked_or_faulty}
+
+accepted_or_refused : (bytes text : List ℕ) (a : Ast) → IsAccepted bytes a → IsRefused (IsRefusalOf bytes) text → ⊥
+accepted_or_refused bytes text a h r = elim r.why [
+  | inl k ↦ spelled_or_refused bytes a r.refusal h.spells k
+  | inr k ↦ not_meant a r.refusal h.mission (subst (λ (b : Ast). IsMissionRefusal b r.refusal) (spelled_one bytes k.0 a k.1 h.spells) k.2) h.means
+]
+
+-- an accepted mission is printed
+pub printed : (bytes text : List ℕ) (a : Ast) (status : Status) → IsAccepted bytes a → Prints bytes status text → (status ≡ Done) × (text ≡ canonical a)
+printed bytes text a Done h p = (refl, p.is ∙ ap canonical (spelled_one bytes p.ast a p.accepted.spells h.spells))
+printed bytes text a Refused h p = absurd (accepted_or_refused bytes text a h p)
+printed bytes text a Usage h p = absurd p
+printed bytes text a ReadFault h p = absurd p
+printed bytes text a WriteFault h p = absurd p
+printed bytes text a NoMemory h p = absurd p
+printed bytes text a PlanRefused h p = absurd p
+
+judged_sound : (m : Mission) (es : List Extension) (status : Status) (text : List ℕ) → Checked m es → Judges m es status text → (status ≡ Done) × (text ≡ checked_line (length es))
+judged_sound m es Done text c j = (refl, j.line)
+judged_sound m es PlanRefused text c j = absurd (checked_or_faulty m es text c j)
+judged_sound m es Usage text c j = absurd j
+judged_sound m es Refused text c j = absurd j
+judged_sound m es ReadFault text c j = absurd j
+judged_sound m es WriteFault text c j = absurd j
+judged_sound m es NoMemory text c j = absurd j
+
+-- a checked plan is sound
+pub sound : (bytes text : List ℕ) (m : Mission) (es : List Extension) (status : Status) → IsGiven bytes m es → Checked m es → Checks bytes status text → (status ≡ Done) × (text ≡ checked_line (length es))
+sound bytes text m es status g c (inl j) =
+    let e = given_one bytes j.mission m j.plan es j.given g in
+    judged_sound m es status text c (subst (λ (x : Mission). Judges x es status text) e.0 (subst (λ (l : List Extension). Judges j.mission l status text) e.1 j.judges))
+sound bytes text m es status g c (inr r) = absurd (given_or_refused bytes m es r.1.refusal g r.1.why)
+
+run_flown : (m : Mission) (es : List Extension) (status : Status) (text : List ℕ) → IsPlain m → length es ≡ 1 → Checked m es → Runs m es status text → (status ≡ Done) × IsFlown m es text
+run_flown m es Done text p one c r = (refl, r)
+run_flown m es PlanRefused text p one c r = elim r.cause [ inl k ↦ absurd (k.other one) | inr k ↦ absurd (checked_or_faulty m es text c k.1) ]
+run_flown m es Refused text p one c r = absurd (r.0 p)
+run_flown m es Usage text p one c r = absurd r
+run_flown m es ReadFault text p one c r = absurd r
+run_flown m es WriteFault text p one c r = absurd r
+run_flown m es NoMemory text p one c r = absurd r
+
+-- a plain mission is flown by its checked plan
+pub flown : (bytes text : List ℕ) (m : Mission) (es : List Extension) (status : Status) → IsGiven bytes m es → IsPlain m → length es ≡ 1 → Checked m es → Sims bytes status text → (status ≡ Done) × IsFlown m es text
+flown bytes text m es status g p one c (inl r) =
+    let e = given_one bytes r.mission m r.plan es r.given g in
+    run_flown m es status text p one c (subst (λ (x : Mission). Runs x es status text) e.0 (subst (λ (l : List Extension). Runs r.mission l status text) e.1 r.runs))
+flown bytes text m es status g p one c (inr (s, inl u)) = absurd (given_or_alone bytes m u.mission u.used es g u.front u.ends)
+flown bytes text m es status g p one c (inr (s, inr r)) = elim r.why [
+  | inl f ↦ absurd (in_front_or_refused bytes m g.used r.refusal g.mission f)
+  | inr n ↦ absurd (behind_or_refused bytes m es r.refusal g n.behind)
+]

@@ -1,0 +1,15 @@
+use Rattle.std.proofs.Common.{refl, inr}
+use Rattle.std.proofs.lemmas.Result.{IfOk-weaker}
+use Rattle.commands.specs.Inputs.{IsGivenRefusal, IsTold}
+use Rattle.commands.specs.Checks.{Checks}
+use Rattle.commands.specs.declared.outcome.Outcome.{Outcome}
+use Rattle.commands.proofs.InputLemmas.{told}
+use Rattle.commands.proofs.checking.check.Goals as goal
+
+pub returns-in-Err : goal.returns-in-Err
+returns-in-Err c =
+    let text = c.args.text.now in
+    let r = c.in-Err.refusal in
+    IfOk-weaker c.refused.result (λ (o : Outcome). IsTold r o.status o.text) (λ (o : Outcome). Checks text o.status o.text)
+    (λ o t. inr (t.refused, told (IsGivenRefusal text) r o.status o.text c.in-Err.ensures t))
+    c.refused.ensures

@@ -1,0 +1,5 @@
+pub mod Statuses
+pub mod Inputs
+pub mod Prints
+pub mod Checks
+pub mod Sims

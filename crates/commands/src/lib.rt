@@ -1,0 +1,19 @@
+//! What each command makes of an input: a status, and the text that is written with it.
+#![tactic(auto)]
+
+mod checking;
+mod input;
+mod laws;
+mod outcome;
+mod printing;
+mod simulation;
+mod status;
+#[cfg(test)]
+mod tests;
+
+pub use checking::check;
+pub use laws::{a_checked_plan_is_sound, a_plain_mission_is_flown, an_accepted_mission_is_printed};
+pub use outcome::Outcome;
+pub use printing::print;
+pub use simulation::sim;
+pub use status::Status;
