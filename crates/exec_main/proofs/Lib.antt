@@ -1,3 +1,2 @@
 pub mod FrontLemmas
-pub mod FlightLemmas
-pub mod WordLemmas
+pub mod GoodLemmas

@@ -1,12 +1,11 @@
 //! The top call: reads the input, does what the words ask for, and writes the output.
 #![tactic(auto)]
 
-mod flight;
-mod status;
+mod laws;
 mod streams;
 mod top;
 
-pub use status::Status;
+pub use laws::{accepted_missions_are_printed, checked_plans_are_flown, checked_plans_are_told};
 pub use top::ground;
 
 #[cfg(test)]

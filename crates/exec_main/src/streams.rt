@@ -1,7 +1,7 @@
-ghost use Rattle.std.specs.Prelude.{◌≡◌, ◌≤◌, ◌<◌, vec_len, IfOk, OnOk, OnErr, IsErrOf};
-ghost use Rattle.std.specs.Io.KnownBytes.{Appends, Consumes, IsAtEnd};
+ghost use Rattle.std.specs.Prelude.{◌≡◌, ◌≤◌, IfOk, OnOk, OnErr, IsErrOf};
+ghost use Rattle.std.specs.Io.KnownBytes.{Appends};
 ghost use Rattle.hs_port.specs.Causes.{Rose};
-ghost use Rattle.exec_main.specs.Streams.{AppendsFront, TakesTooMany};
+ghost use Rattle.exec_main.specs.Streams.{AppendsFront, Reads};
 ghost use Rattle.exec_main.specs.declared.streams.Unread.TheVariants.{Failed as ReadFailed, Memory as NoMemory};
 
 use hs_base::{Memory, TEXT_BYTES};
@@ -11,11 +11,10 @@ use std::alloc::Global;
 /// The most bytes that are asked for at a time.
 const PIECE_BYTES: usize = 4_096;
 
-/// Why an input wasn't read to its end.
+/// Why an input wasn't read.
 #[derive(Clone, Copy, Debug, PartialEq, Eq)]
 pub enum Unread {
     Failed,
-    TooLong,
     Memory,
 }
 
@@ -35,12 +34,9 @@ impl From<Memory> for Unread {
     }
 }
 
-/// All bytes of a source, if they are no more than an input may have.
+/// The bytes of a source to its end, or until they are more than an input may have.
 pub fn read_whole<S: Source>(alloc: Global, source: &mut S) -> Result<Vec<u8>, Unread>
-    ensures whole { IfOk result (λ text. Consumes (S.left source.old) (S.left source.new) text.items) }
-    ensures end { OnOk result (IsAtEnd (S.left source.new)) }
-    ensures short { IfOk result (λ text. vec_len text ≤ TEXT_BYTES) }
-    ensures too_long { IsErrOf result Unread.TooLong → TakesTooMany (S.left source.old) (S.left source.new) }
+    ensures read { IfOk result (λ text. Reads (S.left source.old) (S.left source.new) text.items) }
     ensures later { S.faults source.old ≤ S.faults source.new }
     ensures failed { IsErrOf result Unread.Failed → Rose (S.faults source.old) (S.faults source.new) }
 {
@@ -54,10 +50,10 @@ pub fn read_whole<S: Source>(alloc: Global, source: &mut S) -> Result<Vec<u8>, U
         text.extend_from_slice(&piece[..count])
             .map_err(Memory::from)?;
         if text.len() > TEXT_BYTES {
-            return Err(Unread::TooLong);
+            return Ok(text);
         }
     }
-    Err(Unread::TooLong)
+    Ok(text)
 }
 
 /// Writes all of a text.

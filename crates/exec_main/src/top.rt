@@ -1,96 +1,25 @@
-ghost use Rattle.std.specs.Prelude.{◌≡◌, ◌≢◌, ◌↔◌, ◌⊎◌, length, codes, IsTrue, IfOk, IsErrOf, OnOk};
-ghost use Rattle.std.specs.Io.KnownBytes.{Keeps, Appends};
+ghost use Rattle.std.specs.Prelude.{◌≡◌, ◌⊎◌, length, IfOk, IsErrOf};
+ghost use Rattle.std.specs.Io.KnownBytes.{Keeps};
+ghost use Rattle.command_line.specs.declared.request.Command.{Command as AnyCommand};
 ghost use Rattle.hs_port.specs.Causes.{Rose};
-ghost use Rattle.exec_main.specs.Ground.{AsksSim, Comes, Delivers};
-ghost use Rattle.exec_main.specs.Statuses.{code_of};
-ghost use Rattle.exec_main.specs.Streams.{AppendsFront, IsRead};
+ghost use Rattle.commands.specs.Statuses.{code_of};
+ghost use Rattle.exec_main.specs.Ground.{AsksFor, AsksForNone, IsAnswer, IsBuilt, Answers, IsDue, Writes, Delivers};
+ghost use Rattle.exec_main.specs.Streams.{IsWritten};
 ghost use Rattle.exec_main.specs.declared.top.Stop.TheVariants.{Memory as NoMemory};
 
-use crate::Status;
-use crate::flight::fly;
 use crate::streams::{Unread, read_whole, write_whole};
-use first_exec::{Offer, Unfit};
-use first_text::read_first;
-use hs_base::{Memory, Mission, Text};
+use command_line::{Command, Unasked, words_of};
+use commands::{Outcome, Status, check, print, sim};
+use hs_base::Memory;
 use hs_port::{Device, Sink, Source};
 use std::alloc::Global;
 
 const USAGE_LINE: &[u8] = b"usage: hsts COMMAND [--budget N] [--seed N] [--size N]\n";
 
-const REFUSED_LINE: &[u8] = b"refused 0\n";
-
-/// A status, and what is to be written with it.
-#[derive(Debug, Drop)]
-struct Outcome {
-    status: Status,
-    text: Text,
-}
-
-/// Whether the words are `sim` alone.
-fn is_sim(words: &[String]) -> bool
-    ensures { IsTrue result ↔ AsksSim words.now }
-{
-    match words {
-        [word] => word.as_str() == "sim",
-        _ => false,
-    }
-}
-
-fn refused(alloc: Global) -> Result<Outcome, Memory>
-    ensures { IfOk result (λ outcome. Comes outcome.status outcome.text) }
-{
-    let mut text = Text::new(alloc);
-    text.push_bytes(REFUSED_LINE)?;
-    Ok(Outcome {
-        status: Status::Refused,
-        text,
-    })
-}
-
-/// Lets each device load its variable.
-fn load_all<D: Device>(alloc: Global, mission: &Mission, devices: &mut [D]) -> Result<(), Memory> {
-    for (device, var) in devices.iter_mut().zip(mission.vars.as_slice()) {
-        device.load(alloc, var)?;
-    }
-    Ok(())
-}
-
-/// Flies an offered plan, and writes its log.
-fn flown(alloc: Global, mission: Mission, offer: Offer) -> Result<Outcome, Memory>
-    requires { length mission.horizons ≡ 1 }
-    ensures { IfOk result (λ outcome. Comes outcome.status outcome.text) }
-{
-    let (mission, history) = fly(alloc, mission, offer)?;
-    let mut text = journal_text::write(alloc, &mission, history.as_slice())?;
-    text.push_bytes(b"done\n")?;
-    Ok(Outcome {
-        status: Status::Done,
-        text,
-    })
-}
-
-/// Does what a text asks for.
-fn sim<D: Device>(alloc: Global, text: &[u8], devices: &mut [D]) -> Result<Outcome, Memory>
-    ensures { IfOk result (λ outcome. Comes outcome.status outcome.text) }
-{
-    let Some((mission, extension)) = read_first(alloc, text)? else {
-        return refused(alloc);
-    };
-    if mission.horizons.len() != 1 {
-        return refused(alloc);
-    }
-    let offer = match Offer::first(alloc, &mission, extension) {
-        Ok(offer) => offer,
-        Err(Unfit::Unchecked) => return refused(alloc),
-        Err(Unfit::Memory) => return Err(Memory),
-    };
-    load_all(alloc, &mission, devices)?;
-    flown(alloc, mission, offer)
-}
-
 /// Why nothing is due.
 #[derive(Clone, Copy, Debug, PartialEq, Eq)]
 enum Stop {
+    Usage,
     ReadFault,
     Memory,
 }
@@ -103,19 +32,55 @@ impl From<Memory> for Stop {
     }
 }
 
-/// Reads the input, and makes the whole output.
+/// The command that the words ask for, where it is built.
+fn asked(alloc: Global, words: &[String]) -> Result<Command, Stop>
+    ensures asks { IfOk result (AsksFor words.now) }
+    ensures usage { IsErrOf result Stop.Usage → AsksForNone words.now }
+    ensures no_fault { IsErrOf result Stop.ReadFault → ⊥ }
+{
+    match words_of(alloc, words) {
+        Ok(request) => match request.command {
+            Command::Print | Command::Check | Command::Sim => Ok(request.command),
+            _ => Err(Stop::Usage),
+        },
+        Err(Unasked::Usage) => Err(Stop::Usage),
+        Err(Unasked::Memory) => Err(Stop::Memory),
+    }
+}
+
+/// What a command makes of an input.
+fn answer<D: Device>(
+    alloc: Global,
+    command: Command,
+    text: &[u8],
+    devices: &mut [D],
+) -> Result<Outcome, Memory>
+    requires { IsBuilt command }
+    ensures { IfOk result (λ o. Answers command text.now o.status o.text) }
+{
+    match command {
+        Command::Print => print(alloc, text),
+        Command::Check => check(alloc, text),
+        _ => sim(alloc, text, devices),
+    }
+}
+
+/// Reads the words and the input, and makes the whole output.
 fn outcome_of<S: Source, D: Device>(
     alloc: Global,
+    words: &[String],
     source: &mut S,
     devices: &mut [D],
 ) -> Result<Outcome, Stop>
-    ensures comes { IfOk result (λ outcome. Comes outcome.status outcome.text) }
-    ensures read { OnOk result (IsRead (S.left source.old) (S.left source.new)) }
+    ensures due { (c : AnyCommand) → AsksFor words.now c → IfOk result (λ o. IsDue c (S.left source.old) (S.left source.new) o.status o.text) }
+    ensures answered { IfOk result (λ o. IsAnswer o.status) }
+    ensures usage { IsErrOf result Stop.Usage → AsksForNone words.now }
+    ensures unasked { AsksForNone words.now → IsErrOf result Stop.Usage ⊎ IsErrOf result Stop.Memory }
     ensures read_fault { IsErrOf result Stop.ReadFault → Rose (S.faults source.old) (S.faults source.new) }
 {
+    let command = asked(alloc, words)?;
     match read_whole(alloc, source) {
-        Ok(text) => Ok(sim(alloc, text.as_slice(), devices)?),
-        Err(Unread::TooLong) => Ok(refused(alloc)?),
+        Ok(text) => Ok(answer(alloc, command, text.as_slice(), devices)?),
         Err(Unread::Failed) => Err(Stop::ReadFault),
         Err(Unread::Memory) => Err(Stop::Memory),
     }
@@ -123,7 +88,9 @@ fn outcome_of<S: Source, D: Device>(
 
 /// Writes an outcome, and answers the status.
 fn deliver<K: Sink>(sink: &mut K, outcome: &Outcome) -> Status
-    ensures { ((result ≡ outcome.now.status) × Appends (K.taken sink.old) (K.taken sink.new) outcome.now.text) ⊎ ((result ≡ Status.WriteFault) × AppendsFront (K.taken sink.old) (K.taken sink.new) outcome.now.text × Rose (K.faults sink.old) (K.faults sink.new)) }
+    requires { IsAnswer outcome.now.status }
+    ensures written { Writes (code_of result) outcome.now.status (K.taken sink.old) (K.taken sink.new) outcome.now.text }
+    ensures write_fault { result ≡ Status.WriteFault → Rose (K.faults sink.old) (K.faults sink.new) }
 {
     match write_whole(sink, outcome.text.as_bytes()) {
         Ok(()) => outcome.status,
@@ -134,7 +101,7 @@ fn deliver<K: Sink>(sink: &mut K, outcome: &Outcome) -> Status
 /// Writes the usage line, as far as the sink takes it.
 fn tell_usage<K: Sink>(sink: &mut K) -> Status
     ensures status { result ≡ Status.Usage }
-    ensures front { AppendsFront (K.taken sink.old) (K.taken sink.new) USAGE_LINE.now }
+    ensures line { IsWritten (K.taken sink.old) (K.taken sink.new) (K.faults sink.old) (K.faults sink.new) USAGE_LINE.now }
 {
     let _ = write_whole(sink, USAGE_LINE);
     Status::Usage
@@ -152,24 +119,22 @@ pub fn ground<S: Source, K: Sink, D: Device>(
 ) -> u8
     requires { length devices.old ≡ 16 }
 
-    // The words decide whether the answer is the usage line, of which at least a front is written.
-    ensures usage { (result ≡ code_of Status.Usage) ↔ ¬ (AsksSim words.now) }
-    ensures usage_line { result ≡ code_of Status.Usage → AppendsFront (K.taken sink.old) (K.taken sink.new) USAGE_LINE.now }
+    // Words that ask for no command are answered by the usage line, which is written whole, or a front of it with a fault.
+    ensures usage { result ≡ code_of Status.Usage → AsksForNone words.now }
+    ensures usage_line { result ≡ code_of Status.Usage → IsWritten (K.taken sink.old) (K.taken sink.new) (K.faults sink.old) (K.faults sink.new) USAGE_LINE.now }
+    ensures unasked { AsksForNone words.now → (result ≡ code_of Status.Usage) ⊎ (result ≡ code_of Status.NoMemory) }
+
+    // What a command makes of the input is written, unless the input can't be read or memory is wanting.
+    ensures delivered { (c : AnyCommand) → AsksFor words.now c → ((result ≡ code_of Status.ReadFault) ⊎ (result ≡ code_of Status.NoMemory)) ⊎ Delivers c result (S.left source.old) (S.left source.new) (K.taken sink.old) (K.taken sink.new) }
+    ensures silent { (result ≡ code_of Status.ReadFault) ⊎ (result ≡ code_of Status.NoMemory) → Keeps (K.taken sink.old) (K.taken sink.new) }
 
     // A fault is answered only where one was counted.
     ensures read_fault { result ≡ code_of Status.ReadFault → Rose (S.faults source.old) (S.faults source.new) }
     ensures write_fault { result ≡ code_of Status.WriteFault → Rose (K.faults sink.old) (K.faults sink.new) }
-
-    // Nothing is written with a read fault or want of memory; else what is due is written.
-    ensures silent { (result ≡ code_of Status.ReadFault) ⊎ (result ≡ code_of Status.NoMemory) → Keeps (K.taken sink.old) (K.taken sink.new) }
-    ensures read { (result ≡ code_of Status.Done) ⊎ (result ≡ code_of Status.Refused) ⊎ (result ≡ code_of Status.WriteFault) → IsRead (S.left source.old) (S.left source.new) }
-    ensures delivered { (result ≡ code_of Status.Done) ⊎ (result ≡ code_of Status.Refused) ⊎ (result ≡ code_of Status.WriteFault) → Delivers result (K.taken sink.old) (K.taken sink.new) }
 {
-    if !is_sim(words) {
-        return tell_usage(sink).code();
-    }
-    match outcome_of(alloc, source, devices) {
+    match outcome_of(alloc, words, source, devices) {
         Ok(outcome) => deliver(sink, &outcome).code(),
+        Err(Stop::Usage) => tell_usage(sink).code(),
         Err(Stop::ReadFault) => Status::ReadFault.code(),
         Err(Stop::Memory) => Status::NoMemory.code(),
     }

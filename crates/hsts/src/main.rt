@@ -1,9 +1,10 @@
-//! hsts: reads a mission and its plan, flies it, and writes the log.
+//! hsts: prints a mission, checks a plan, or flies it and writes the log, as the words ask.
 #![tactic(auto)]
 
 ghost use Rattle.std.specs.Prelude.{◌≡◌, vec_len, IfOk};
 
-use exec_main::{Status, ground};
+use commands::Status;
+use exec_main::ground;
 use hs_base::{List, Memory, VARIABLES};
 use hs_port::{MemDevice, StdSink, StdSource};
 use std::alloc::Global;
