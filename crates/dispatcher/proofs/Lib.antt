@@ -9,3 +9,4 @@ pub mod InsideLemmas
 pub mod TieLemmas
 pub mod MarkedLemmas
 pub mod HoldingLemmas
+pub mod SampleLemmas

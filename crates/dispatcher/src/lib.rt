@@ -7,6 +7,8 @@ mod dispatch;
 mod groups;
 mod marks;
 mod places;
+#[cfg(test)]
+mod tests;
 mod times;
 mod waits;
 

@@ -3,6 +3,8 @@
 
 mod offer;
 mod preparing;
+#[cfg(test)]
+mod tests;
 
 pub use offer::{Handed, Live, Offer};
 pub use preparing::prepare;

@@ -5,3 +5,4 @@ pub mod NarrowLemmas
 pub mod SettingLemmas
 pub mod WindowsLemmas
 pub mod FreshLemmas
+pub mod SampleLemmas

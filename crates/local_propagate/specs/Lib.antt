@@ -2,3 +2,4 @@ pub mod Tournament
 pub mod Joined
 pub mod Narrowed
 pub mod Windows
+pub mod Samples

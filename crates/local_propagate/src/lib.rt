@@ -4,6 +4,8 @@
 mod minima;
 mod neighbours;
 mod places;
+#[cfg(test)]
+mod tests;
 mod windows;
 
 pub use minima::Minima;

@@ -247,6 +247,29 @@ fn names_the_limit(rt: HostRuntime) -> Result<(), Fail> {
 }
 
 #[test]
+fn names_the_base(rt: HostRuntime) -> Result<(), Fail> {
+    let mut extension = right(rt.alloc())?;
+    extension.base = 1;
+    let base = Fault::Base {
+        given: 1,
+        current: 0,
+    };
+    assert_eq!(rt; fault(rt.alloc(), extension)?, Some(base));
+    Ok(())
+}
+
+#[test]
+fn names_the_token_out_of_order(rt: HostRuntime) -> Result<(), Fail> {
+    let tokens = [(0, 0), (0, 1), (1, 0), (1, 2)];
+    let order = Fault::Order {
+        sv: SvId(1),
+        place: 1,
+    };
+    assert_eq!(rt; fault_of_tokens(rt.alloc(), &tokens)?, Some(order));
+    Ok(())
+}
+
+#[test]
 fn names_the_fixed_point(rt: HostRuntime) -> Result<(), Fail> {
     let mut extension = right(rt.alloc())?;
     extension.fixed.push(Time {
@@ -261,6 +284,16 @@ fn names_the_fixed_point(rt: HostRuntime) -> Result<(), Fail> {
 }
 
 #[test]
+fn names_the_support(rt: HostRuntime) -> Result<(), Fail> {
+    let supports = [support(token(1, 1))];
+    assert_eq!(rt;
+        fault_of_supports(rt.alloc(), &supports)?,
+        Some(Fault::WrongSupport { number: 0 })
+    );
+    Ok(())
+}
+
+#[test]
 fn names_the_need(rt: HostRuntime) -> Result<(), Fail> {
     let unsupported = Fault::Unsupported {
         sv: SvId(0),
@@ -268,6 +301,17 @@ fn names_the_need(rt: HostRuntime) -> Result<(), Fail> {
         need: 0,
     };
     assert_eq!(rt; fault_of_supports(rt.alloc(), &[])?, Some(unsupported));
+    Ok(())
+}
+
+#[test]
+fn names_the_goal(rt: HostRuntime) -> Result<(), Fail> {
+    let mut extension = right(rt.alloc())?;
+    extension.goals.push(token(0, 1))?;
+    assert_eq!(rt;
+        fault(rt.alloc(), extension)?,
+        Some(Fault::Goal { number: 1 })
+    );
     Ok(())
 }
 
