@@ -1,7 +1,9 @@
-ghost use Rattle.std.specs.Prelude.{◌≡◌, IfOk};
+ghost use Rattle.std.specs.Prelude.{◌≡◌, ◌↔◌, IfOk};
 ghost use Rattle.hs_base.specs.Points.{count};
 ghost use Rattle.hs_base.specs.Bounds.{bounds_of};
+ghost use Rattle.hs_base.specs.Network.{Admits};
 ghost use Rattle.hs_base.specs.Reduced.{IsReducedOf};
+ghost use Rattle.hs_base.specs.Schedule.{Meets, Schedule};
 ghost use Rattle.hs_base.specs.Checked.{Checked, fixed_of as times_fixed_in};
 ghost use Rattle.stn_distance.specs.Distances.{IsDistOf};
 ghost use Rattle.edge_filter.specs.Reform.{IsReformed};
@@ -11,7 +13,7 @@ use hs_base::{Extension, Memory, Mission, Net, Plan, Time};
 use plan_check::CheckedPlan;
 use std::alloc::Global;
 use std::marker::Model;
-use stn_distance::{Dist, close_fixed};
+use stn_distance::{Broken, Dist, close_fixed};
 use token_net::{bounds, points};
 
 /// A checked plan with the distances of its points and its reduced network.
@@ -90,16 +92,19 @@ fn distances(alloc: Global, mission: &Mission, plan: &Plan) -> Result<Dist, Memo
     fixed.sort_unstable_by_key(|time| time.point.0);
     match close_fixed(alloc, points(plan), fixed.as_slice(), bounds.as_slice()) {
         Ok(dist) => Ok(dist),
-        // Its bounds have a schedule, so they have no negative cycle.
-        Err(_) => Err(Memory),
+        Err(Broken::Memory) => Err(Memory),
+        // The bounds of a checked plan have a schedule, so they have no negative cycle.
+        Err(Broken::Cycle(_)) => unreachable!(),
     }
 }
 
 /// Reformulates a checked plan for dispatching: its distances, and the network of rigid groups and
 /// of the edges between their leaders that no edge dominates (Muscettola, Morris, Tsamardinos 1998).
+/// The network admits exactly the schedules of the plan.
 pub fn reform(alloc: Global, plan: CheckedPlan) -> Result<Reformed, Memory>
     ensures plan { IfOk result (λ r. r.plan ≡ plan) }
     ensures net { IfOk result (λ r. IsReducedOf (count plan.plan.extensions) (bounds_of plan.mission plan.plan.extensions) r.net) }
+    ensures exact { IfOk result (λ r. (s : Schedule) → Admits r.net s ↔ Meets (bounds_of plan.mission plan.plan.extensions) s) }
 {
     let dist = distances(alloc, plan.mission(), plan.plan())?;
     let net = network(alloc, &dist)?;

@@ -1,5 +1,5 @@
 -- What the parts of a run do to a flight, one after the other.
-use Rattle.std.proofs.Common.{◌≡◌, ◌≢◌, ℕ, ◌+◌, Bool, true, false, List, [], length, refl, sym, ap, ◌∙◌, subst, arith, inl, inr}
+use Rattle.std.proofs.Common.{◌≡◌, ◌≢◌, ℕ, ◌+◌, ◌-◌, Bool, true, false, List, [], length, take, refl, sym, ap, ◌∙◌, subst, arith, inl, inr}
 use Rattle.std.specs.Bool.{OnTrue, OnFalse}
 use Rattle.std.proofs.lemmas.Bool.{OnTrue_at, OnFalse_at, cases_lt}
 use Rattle.hs_base.specs.declared.ids.PointId.{PointId}
@@ -11,15 +11,16 @@ use Rattle.hs_base.specs.Checked.{Checked}
 use Rattle.hs_base.specs.Points.{count}
 use Rattle.hs_base.specs.State.{plan_of, phase_of}
 use Rattle.hs_base.specs.Eager.{NoneMayFire}
-use Rattle.hs_base.specs.Machine.{tick, fire, handover, done, Replies, Turn}
+use Rattle.hs_base.specs.Machine.{tick, fire, handover, done, Replies, HandoverReply, IsNext, Turn}
 use Rattle.plan_check.specs.Planned.{Planned}
 use Rattle.exec_core.specs.Recorded.{Recorded}
 use Rattle.exec_core.specs.Replies.{reply_of}
 use Rattle.exec_core.specs.declared.reply.Reply.{Reply}
-use Rattle.exec_core.specs.declared.reply.Reply.TheVariants.{Done}
+use Rattle.exec_core.specs.declared.reply.Reply.TheVariants.{Done, Memory, NotNext, OtherMission, Stale}
 use Rattle.flight_laws.specs.Flights.{HasNoDevices, IsFlight, IsFlying, AreStill}
 use Rattle.flight_laws.proofs.TurnLemmas.{fire_quiet, turn_quiet}
 use Rattle.flight_laws.proofs.FlyingLemmas.{Steps, flying_handed, flying_fired, flying_ticked, flying_stops}
+use Rattle.horizon_handover.proofs.StartLemmas.{start_fits}
 use Rattle.sim_run.specs.Settling.{Flies, IsLaunched, GoesOn, GoesFurther}
 
 -- nothing is done
@@ -116,6 +117,24 @@ launched p q old new by reply checked one none same is mission turn answer =
       plan = f.1;
       flies = subst (λ (m : Mission). IsFlying m new.history (count es)) (sym named) f.0;
     }
+
+-- a checked plan of one extension is the next one of an empty history
+is_next : (es : List Extension) → length es ≡ 1 → IsNext [] es
+is_next es one = ((λ e. omega (arith, one, ap length e)), ap (λ n. take (n - 1) es) one)
+
+-- a checked plan of one extension is taken at the beginning, unless memory is wanting
+pub taken_at_first : (p q : Planned) (old new : Recorded) (by : ℕ) (reply : Reply) → Checked p.mission p.plan.extensions → length p.plan.extensions ≡ 1 → q ≡ p → old ≡ record { mission = p.mission; history = [] } → Turn old.mission old.history by (handover q.mission q.plan.extensions) (reply_of reply) new.history → reply ≢ Done → reply ≢ Memory → ⊥
+taken_at_first p q old new by reply checked one same is turn not_done not_memory =
+    let begins : Turn p.mission [] by (handover p.mission p.plan.extensions) (reply_of reply) new.history = rw (same, is) at turn in
+    by_reply reply begins.answers.lawful not_done not_memory
+  where
+    by_reply : (r : Reply) → HandoverReply p.mission [] p.mission p.plan.extensions (reply_of r) → r ≢ Done → r ≢ Memory → ⊥
+    by_reply Done lawful d e = d refl
+    by_reply Memory lawful d e = e refl
+    by_reply OtherMission lawful d e = lawful refl
+    by_reply (NotNext current agree) lawful d e = lawful.1 (is_next p.plan.extensions one)
+    by_reply (Stale b from to) lawful d e = lawful.2 checked.schedule (start_fits p checked)
+    by_reply _ lawful d e = lawful
 
 -- a launched flight is one of its plan, and so is what it goes on to
 pub flown : (p : Planned) (old new : Recorded) (points : ℕ) → IsLaunched p old → GoesOn points old new → IsFlight p.mission p.plan.extensions new.history

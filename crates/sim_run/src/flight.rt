@@ -93,8 +93,9 @@ fn launch(alloc: Global, plan: CheckedPlan) -> Result<Exec, Memory>
     let offer = prepare(alloc, reform(alloc, plan)?)?;
     match exec.hand_over(OWN, offer) {
         Reply::Done => Ok(exec),
-        // A first plan of one extension is taken, unless memory is wanting.
-        _ => Err(Memory),
+        Reply::Memory => Err(Memory),
+        // A checked plan of one extension is refused for no other cause.
+        _ => unreachable!(),
     }
 }
 

@@ -5,6 +5,7 @@ use Rattle.std.proofs.lemmas.List.Sorted.{All-permutation}
 use Rattle.std.specs.List.Sorted.{IsPermutation}
 use Rattle.hs_base.specs.Points.{count}
 use Rattle.hs_base.specs.Bounds.{bounds_of}
+use Rattle.hs_base.specs.Schedule.{HasNoSchedule}
 use Rattle.hs_base.specs.Checked.{fixed_of}
 use Rattle.stn_distance.specs.Ranges.{IsInRange, StaysInTime, IsFixed}
 use Rattle.plan_check.proofs.WithinLemmas.{within, few_points}
@@ -39,3 +40,11 @@ close_fixed-requires c =
           (subst (All (IsFixed (count es) (bounds_of m es))) (sym c.as_slice-2.ensures.value) (All-permutation (IsFixed (count es) (bounds_of m es)) c.in_ok-fixed.fixed.items _ c.sort_unstable_by_key.ensures.permutation
           (subst (All (IsFixed (count es) (bounds_of m es))) (sym old_is) (all_fixed m es c.requires)))));
     }
+
+pub unreachable-requires : goal.unreachable-requires
+unreachable-requires c =
+    let m = c.args.mission.now in
+    let es = c.args.plan.now.extensions in
+    let bs_is : c.as_slice-3.result.now ≡ bounds_of m es = c.as_slice-3.ensures ∙ c.in_ok-bounds.ensures in
+    let none : HasNoSchedule (bounds_of m es) = subst (λ (bs : List Bound). HasNoSchedule bs) bs_is (rw c.in-Err-Cycle.field-0-is at c.in-Err-Cycle.ensures.none) in
+    none.none c.requires.schedule c.requires.meets
