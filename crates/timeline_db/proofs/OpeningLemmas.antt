@@ -1,0 +1,207 @@
+-- The bounds with which a search begins, and that it begins well.
+use Rattle.std.proofs.Common.{◌≡◌, ℕ, ℤ, zero, suc, ◌+◌, ◌*◌, ◌-◌, ◌<◌, ◌≤◌, Bool, true, false, cond, ◌||◌, nat_eq, List, [], ◌∷◌, ◌++◌, All, Option, Some, length, map, drop, flat_map, get_or, slice_get, pos, neg_ℤ, to_z, of_z, w64, refl, sym, ap, ◌∙◌, subst, append-nil, length-append, arith}
+use Rattle.std.proofs.lemmas.Int.{ints, to_z-of_z}
+use Rattle.std.specs.List.{AllByRecursion, list_any}
+use Rattle.std.specs.Prelude.{◌≤ℤ◌}
+use Rattle.hs_base.specs.Bounds.{apart, bounds_of, exactly, fixed_bounds, horizon_bounds, is_fixed, on_some, point_bounds, since_bounds}
+use Rattle.hs_base.specs.Checked.{KeepsFixedAt, KeepsRules, fixed_of}
+use Rattle.hs_base.specs.Points.{count, tokens_of}
+use Rattle.hs_base.specs.Ranges.{InRange, whole}
+use Rattle.hs_base.specs.Schedule.{bound, numbers_from}
+use Rattle.hs_base.specs.Walks.{EachAfter}
+use Rattle.hs_base.specs.declared.mission.Horizon.{Horizon}
+use Rattle.hs_base.specs.declared.mission.Mission.{Mission}
+use Rattle.hs_base.specs.declared.net.Bound.{Bound}
+use Rattle.hs_base.specs.declared.plan.Extension.{Extension}
+use Rattle.hs_base.specs.declared.plan.Time.{Time}
+use Rattle.base_laws.proofs.ListLemmas.{each_split, snoc_induction}
+use Rattle.base_laws.proofs.PointLemmas.{count_is, tokens-push}
+use Rattle.plan_check.proofs.LoopLemmas.{each_from}
+use Rattle.plan_check.proofs.WithinLemmas.{fixed-push}
+use Rattle.plan_check.specs.Fixing.{AreFlags}
+use Rattle.plan_check.specs.Planned.{Planned}
+use Rattle.plan_laws.specs.Fit.{IsFit}
+use Rattle.search_tree.proofs.CellLemmas.{stub_count}
+use Rattle.search_tree.proofs.RangeLemmas.{root_fit}
+use Rattle.search_tree.proofs.RootLemmas.{newest_is, root_meets, root_schedule}
+use Rattle.search_tree.proofs.SizeLemmas.{few_at_root}
+use Rattle.search_tree.specs.Begun.{Begun, newest, number, stub}
+use Rattle.search_tree.specs.Outset.{MayBegin}
+use Rattle.search_tree.specs.Partial.{Row, begin}
+use Rattle.search_tree.specs.PartialBounds.{HasSchedule, begun_bounds, root_bounds, token_bounds}
+use Rattle.search_tree.specs.Parts.{do_parts}
+use Rattle.search_tree.specs.declared.held.Cell.{Cell}
+use Rattle.stn_distance.specs.Ranges.{IsInRange}
+use Rattle.stn_trail.specs.Held.{Held as Trailed}
+use Rattle.stn_trail.specs.declared.part.Part.TheVariants.{Added}
+use Rattle.timeline_db.proofs.ClaimLemmas.{any_append}
+use Rattle.timeline_db.proofs.TimeLemmas.{tick_is, tick_whole}
+use Rattle.timeline_db.specs.Boards.{pictured}
+use Rattle.timeline_db.specs.Databases.{IsCounted, IsDb, parts_of}
+use Rattle.timeline_db.specs.Kept.{tick_of}
+use Rattle.timeline_db.specs.Laying.{AreOutset}
+use Rattle.timeline_db.specs.Lines.{Shown, cell_of, row_of}
+use Rattle.timeline_db.specs.Opening.{line_bounds}
+use Rattle.timeline_db.specs.declared.board.Board.{Board}
+use Rattle.timeline_db.specs.declared.course.Step.{Step}
+use Rattle.token_net.specs.Rows.{since_rows}
+
+-- entries that rise are no more than the number that they stay below
+rising_few : (es : List Extension) (e : Extension) (ts : List Time) → EachAfter (KeepsFixedAt es e) [] ts → (n : ℕ) → AllByRecursion (λ (t : Time). t.point.0 < n) ts → length ts ≤ n
+rising_few es e ts h = snoc_induction (λ (l : List Time). (n : ℕ) → AllByRecursion (λ (t : Time). t.point.0 < n) l → length l ≤ n) (KeepsFixedAt es e) step [] ts (λ n g. omega arith) h
+  where
+    step : (before : List Time) (t : Time) → KeepsFixedAt es e before t → ((n : ℕ) → AllByRecursion (λ (t : Time). t.point.0 < n) before → length before ≤ n) → (n : ℕ) → AllByRecursion (λ (t : Time). t.point.0 < n) (before ++ t ∷ []) → length (before ++ t ∷ []) ≤ n
+    step before t r p n g =
+        let s = each_split (λ (t : Time). t.point.0 < n) before (t ∷ []) g in
+        let low = p t.point.0 r.rising in
+        let top = s.1.0 in
+        omega (arith, low, top, length-append before (t ∷ []))
+
+pub fixed_below : (es : List Extension) (e : Extension) (ts : List Time) → EachAfter (KeepsFixedAt es e) [] ts → AllByRecursion (λ (t : Time). t.point.0 < count es) ts
+fixed_below es e ts h = each_from (KeepsFixedAt es e) (λ (t : Time). t.point.0 < count es) (λ b t f. f.below) [] ts h
+
+pub fixed_few : (es : List Extension) (e : Extension) (ts : List Time) → EachAfter (KeepsFixedAt es e) [] ts → length ts ≤ count es
+fixed_few es e ts h = rising_few es e ts h (count es) (fixed_below es e ts h)
+
+module _ (m : Mission) (few : length m.horizons ≤ 1000) where
+  abbrev AreFew : List Extension → Type 0
+  AreFew es = (length es ≤ length m.horizons) × (length (tokens_of es) ≤ length es * 128) × (length (fixed_of es) ≤ length es * 200000)
+
+  more_few : (before : List Extension) (e : Extension) → KeepsRules m before e → AreFew before → AreFew (before ++ e ∷ [])
+  more_few before e r k =
+      let left = r.base.horizon_left in
+      let tokens = r.limits.tokens in
+      let size = length-append before (e ∷ []) in
+      let many = ap length (tokens-push before e) ∙ length-append (tokens_of before) e.tokens in
+      let more = ap length (fixed-push before e) ∙ length-append (fixed_of before) e.fixed in
+      let fixed = fixed_few before e e.fixed r.fixed.each in
+      let old = k.1 in
+      let older = k.2 in
+      (omega (arith, left, size), omega (arith, tokens, size, many, old), omega (arith, fixed, size, more, older, old, count_is before, few, left))
+
+  -- a plan fixes no more points than can be counted
+  pub fixed_counted : (es : List Extension) → EachAfter (KeepsRules m) [] es → length (fixed_of es) ≤ 200000000
+  fixed_counted es r =
+      let f = snoc_induction AreFew (KeepsRules m) more_few [] es (omega arith, omega arith, omega arith) r in
+      let a = f.0 in
+      let b = f.2 in
+      omega (arith, a, b, few)
+
+-- one more extension fixes its points too
+pub flags_more : (es : List Extension) (e : Extension) (flags : List Bool) → ((x : ℕ) → get_or flags x false ≡ (is_fixed es x || list_any (λ (t : Time). nat_eq t.point.0 x) e.fixed)) → AreFlags (es ++ e ∷ []) flags
+flags_more es e flags h = λ x.
+    h x ∙ sym (any_append (λ (e : Extension). list_any (λ (t : Time). nat_eq t.point.0 x) e.fixed) es (e ∷ []) ∙ ap (λ (c : Bool). is_fixed es x || c) (or_false (list_any (λ (t : Time). nat_eq t.point.0 x) e.fixed)))
+  where
+    or_false : (c : Bool) → (c || false) ≡ c
+    or_false true = refl
+    or_false false = refl
+
+flat_same : {X Y : Type 0} (f g : X → List Y) (xs : List X) → ((x : X) → f x ≡ g x) → flat_map f xs ≡ flat_map g xs
+flat_same f g [] h = refl
+flat_same f g (x ∷ xs) h = ap (λ l. l ++ flat_map f xs) (h x) ∙ ap (λ l. g x ++ l) (flat_same f g xs h)
+
+flat_of_map : {X Y Z : Type 0} (f : Y → List Z) (g : X → Y) (xs : List X) → flat_map f (map g xs) ≡ flat_map (λ x. f (g x)) xs
+flat_of_map f g [] = refl
+flat_of_map f g (x ∷ xs) = ap (λ l. f (g x) ++ l) (flat_of_map f g xs)
+
+in_range : (n : ℕ) (bs : List Bound) (k : ℕ) (d : Bound) → AllByRecursion (IsFit n) bs → k < length bs → IsInRange n (get_or bs k d)
+in_range n [] k d h l = absurd (omega arith)
+in_range n (x ∷ bs) zero d h l = record { from_below = h.0.from; to_below = h.0.to; low = h.0.least; high = h.0.most }
+in_range n (x ∷ bs) (suc k) d h l = in_range n bs k d h.1 (omega arith)
+
+-- a time fits 64 bits
+pub whole_fits : (z : ℤ) → InRange whole z → to_z w64 (of_z w64 z) ≡ z
+whole_fits z h = to_z-of_z w64 z (omega (arith, ints, h.0, h.1))
+
+module _ (m : Mission) (b : Begun) (may : MayBegin m b) where
+  -- what is known without a new token
+  pub begun_is : (mark : ℕ) (tick : ℤ) (flags : List Bool) → mark ≡ count b.base → tick ≡ tick_of m b → AreFlags (stub b) flags → length flags ≡ mark + 1
+      → bounds_of m b.base ++ exactly mark tick ++ apart mark 0 whole ++ fixed_bounds b.fixed ++ since_rows flags (length flags) b.since ≡ begun_bounds m b
+  begun_is mark tick flags is_mark is_tick marked size =
+      let less : number b - 1 ≡ length b.base = omega arith in
+      let is : slice_get m.horizons (number b - 1) ≡ Some may.horizon = ap (slice_get m.horizons) less ∙ may.is_horizon in
+      let one : exactly mark tick ≡ horizon_bounds m (stub b) (number b) =
+      ap (λ (x : ℕ). exactly x tick) (is_mark ∙ sym (newest_is b)) ∙ ap (exactly (newest b)) (is_tick ∙ tick_is m b may)
+      ∙ sym (ap (λ (o : Option Horizon). on_some o (λ (h : Horizon). exactly (newest b) h.tick)) is) in
+      let two : apart mark 0 whole ≡ point_bounds (count b.base) 1 = ap (λ (x : ℕ). apart x 0 whole) is_mark in
+      let wide : length flags - 1 ≡ count (stub b) - 1 = omega (arith, size, is_mark, stub_count b) in
+      let three : since_rows flags (length flags) b.since ≡ since_bounds (stub b) b.since =
+      flat_same (λ (x : ℕ). cond (get_or flags x false) [] (bound x 0 (neg_ℤ b.since) ∷ [])) (λ (x : ℕ). cond (is_fixed (stub b) x) [] (bound x 0 (neg_ℤ b.since) ∷ [])) (numbers_from 1 (length flags - 1)) (λ x. ap (λ (c : Bool). cond c [] (bound x 0 (neg_ℤ b.since) ∷ [])) (marked x))
+      ∙ ap (λ (n : ℕ). flat_map (λ (x : ℕ). cond (is_fixed (stub b) x) [] (bound x 0 (neg_ℤ b.since) ∷ [])) (numbers_from 1 n)) wide in
+      ap (λ (l : List Bound). bounds_of m b.base ++ l ++ apart mark 0 whole ++ fixed_bounds b.fixed ++ since_rows flags (length flags) b.since) one
+      ∙ ap (λ (l : List Bound). bounds_of m b.base ++ horizon_bounds m (stub b) (number b) ++ l ++ fixed_bounds b.fixed ++ since_rows flags (length flags) b.since) two
+      ∙ ap (λ (l : List Bound). bounds_of m b.base ++ horizon_bounds m (stub b) (number b) ++ point_bounds (count b.base) 1 ++ fixed_bounds b.fixed ++ l) three
+
+  -- as they are made
+  pub begun_made : (mark : ℕ) (tick since : ℤ) (flags : List Bool) (fixed : List Time) (one two three four five : List Bound) → mark ≡ count b.base → tick ≡ tick_of m b → since ≡ b.since → fixed ≡ b.fixed → AreFlags (stub b) flags → length flags ≡ mark + 1
+      → one ≡ bounds_of m b.base → two ≡ one ++ exactly mark tick → three ≡ two ++ apart mark 0 whole → four ≡ three ++ fixed_bounds fixed → five ≡ four ++ since_rows flags (length flags) since → five ≡ begun_bounds m b
+  begun_made mark tick since flags fixed one two three four five is_mark is_tick is_since is_fixed marked size a c d e f =
+      f ∙ ap (λ (z : ℤ). four ++ since_rows flags (length flags) z) is_since
+      ∙ ap (λ (l : List Bound). l ++ since_rows flags (length flags) b.since)
+      (e ∙ ap (λ (l : List Time). three ++ fixed_bounds l) is_fixed ∙ ap (λ (l : List Bound). l ++ fixed_bounds b.fixed) (d ∙ ap (λ (l : List Bound). l ++ apart mark 0 whole) (c ∙ ap (λ (l : List Bound). l ++ exactly mark tick) a)))
+      ∙ begun_is mark tick flags is_mark is_tick marked size
+
+  -- the bounds of new tokens
+  line_is : (s : Shown) → line_bounds m (newest b) b.since s ≡ flat_map (λ (c : Cell). token_bounds m b c.held) (row_of s).added
+  line_is s = sym (flat_of_map (λ (c : Cell). token_bounds m b c.held) cell_of (drop s.given s.tokens))
+
+  pub lines_are : (mark : ℕ) (lines : List Shown) → mark ≡ count b.base → map row_of lines ≡ (begin m b).rows → begun_bounds m b ++ flat_map (line_bounds m mark b.since) lines ≡ root_bounds m b (begin m b)
+  lines_are mark lines is rows =
+      ap (λ (x : ℕ). begun_bounds m b ++ flat_map (line_bounds m x b.since) lines) (is ∙ sym (newest_is b))
+      ∙ ap (λ (l : List Bound). begun_bounds m b ++ l)
+      (flat_same (line_bounds m (newest b) b.since) (λ (s : Shown). flat_map (λ (c : Cell). token_bounds m b c.held) (row_of s).added) lines line_is
+      ∙ sym (flat_of_map (λ (r : Row). flat_map (λ (c : Cell). token_bounds m b c.held) r.added) row_of lines)
+      ∙ ap (flat_map (λ (r : Row). flat_map (λ (c : Cell). token_bounds m b c.held) r.added)) rows)
+
+  -- they are between the points that are there
+  pub root_range : (points : ℕ) (made : List Bound) → points ≡ (begin m b).points → made ≡ root_bounds m b (begin m b) → All (IsInRange points) made
+  root_range points made size is = subst (λ (l : List Bound). All (IsInRange points) l) (sym is) (subst (λ (n : ℕ). All (IsInRange n) (root_bounds m b (begin m b))) (sym size) (λ k d l. in_range (begin m b).points (root_bounds m b (begin m b)) k d (root_fit m b may) l))
+
+  pub root_few : (points : ℕ) → points ≡ (begin m b).points → (1 ≤ points) × (points ≤ 131072)
+  root_few points size = (omega (arith, size, stub_count b, at_least b.base), omega (arith, size, few_at_root m b may))
+    where
+      at_least : (es : List Extension) → count (stub b) ≤ count (stub b) + (elim es [ [] ↦ length m.vars | (e ∷ es) ↦ 0 ])
+      at_least [] = omega arith
+      at_least (e ∷ es) = omega arith
+
+  -- a search begins with no part done
+  pub db_begun : (tick : ℤ) (settled : ℕ) (board : Board) (trail : Trailed) → tick ≡ tick_of m b → settled ≡ length (fixed_of b.base) + length b.fixed → AreOutset m b board.lines.items → pictured board ≡ begin m b → IsCounted (begin m b) board
+      → trail.first ≡ board.points → trail.parts ≡ map (λ c. Added c) (root_bounds m b (begin m b)) → IsDb m b tick settled board [] trail
+  db_begun tick settled board trail is_tick is_settled outset shows counts first parts = record {
+    begins = may;
+    horizon = is_tick;
+    fixed = is_settled;
+    allowed = tt;
+    shows = shows;
+    counts = counts;
+    tracked = outset.tracked;
+    course = record { first = first ∙ ap (λ p. p.points) shows; parts = parts ∙ sym (append-nil (map (λ c. Added c) (root_bounds m b (begin m b)))); marks = λ k s is. absurd (cc) };
+  }
+
+  -- the same of copies
+  pub db_copied : (p : Planned) (since tick : ℤ) (fixed : List Time) (settled : ℕ) (board : Board) (steps : List Step) (trail : Trailed) → p.mission ≡ m → p.plan.extensions ≡ b.base → since ≡ b.since → fixed ≡ b.fixed → tick ≡ tick_of m b → settled ≡ length (fixed_of b.base) + length b.fixed
+      → AreOutset m b board.lines.items → pictured board ≡ begin m b → IsCounted (begin m b) board → trail.first ≡ board.points → trail.parts ≡ map (λ c. Added c) (root_bounds m b (begin m b)) → steps ≡ []
+      → IsDb p.mission (record { base = p.plan.extensions; since = since; fixed = fixed }) tick settled board steps trail
+  db_copied p since tick fixed settled board steps trail is_m is_base is_since is_fixed is_tick is_settled outset shows counts first parts none =
+      subst (λ (x : Mission). IsDb x (record { base = p.plan.extensions; since = since; fixed = fixed }) tick settled board steps trail) (sym is_m)
+      (subst (λ (es : List Extension). IsDb m (record { base = es; since = since; fixed = fixed }) tick settled board steps trail) (sym is_base)
+      (subst (λ (z : ℤ). IsDb m (record { base = b.base; since = z; fixed = fixed }) tick settled board steps trail) (sym is_since)
+      (subst (λ (ts : List Time). IsDb m (record { base = b.base; since = b.since; fixed = ts }) tick settled board steps trail) (sym is_fixed)
+      (subst (λ (l : List Step). IsDb m b tick settled board l trail) (sym none) (db_begun tick settled board trail is_tick is_settled outset shows counts first parts)))))
+
+  pub open_copied : (p : Planned) (since : ℤ) (fixed : List Time) (steps : List Step) → p.mission ≡ m → p.plan.extensions ≡ b.base → since ≡ b.since → fixed ≡ b.fixed → steps ≡ []
+      → HasSchedule p.mission (record { base = p.plan.extensions; since = since; fixed = fixed }) (do_parts (begin p.mission (record { base = p.plan.extensions; since = since; fixed = fixed })) (parts_of steps))
+  open_copied p since fixed steps is_m is_base is_since is_fixed none =
+      subst (λ (x : Mission). HasSchedule x (record { base = p.plan.extensions; since = since; fixed = fixed }) (do_parts (begin x (record { base = p.plan.extensions; since = since; fixed = fixed })) (parts_of steps))) (sym is_m)
+      (subst (λ (es : List Extension). HasSchedule m (record { base = es; since = since; fixed = fixed }) (do_parts (begin m (record { base = es; since = since; fixed = fixed })) (parts_of steps))) (sym is_base)
+      (subst (λ (z : ℤ). HasSchedule m (record { base = b.base; since = z; fixed = fixed }) (do_parts (begin m (record { base = b.base; since = z; fixed = fixed })) (parts_of steps))) (sym is_since)
+      (subst (λ (ts : List Time). HasSchedule m (record { base = b.base; since = b.since; fixed = ts }) (do_parts (begin m (record { base = b.base; since = b.since; fixed = ts })) (parts_of steps))) (sym is_fixed)
+      (subst (λ (l : List Step). HasSchedule m b (do_parts (begin m b) (parts_of l))) (sym none) (record { schedule = root_schedule m b may; meets = root_meets m b may })))))
+
+-- times of fixed points are no less than 0
+pub fixed_times : (es : List Extension) (e : Extension) (ts : List Time) → EachAfter (KeepsFixedAt es e) [] ts → AllByRecursion (λ (t : Time). pos 0 ≤ℤ t.at) ts
+fixed_times es e ts h = each_from (KeepsFixedAt es e) (λ (t : Time). pos 0 ≤ℤ t.at) (λ b t f. f.at.0) [] ts h
+
+-- so does the tick of a horizon
+pub tick_fits : (m : Mission) (b : Begun) → MayBegin m b → (z : ℤ) → z ≡ tick_of m b → to_z w64 (of_z w64 z) ≡ z
+tick_fits m b may z is = let h = tick_whole m b may in to_z-of_z w64 z (omega (arith, ints, is, h.0, h.1))

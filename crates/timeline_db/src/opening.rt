@@ -1,0 +1,294 @@
+ghost use Rattle.std.specs.List.{AllByRecursion, list_any};
+ghost use Rattle.std.specs.Prelude.{◌≡◌, ℕ, ◌+◌, ◌<◌, ◌≤◌, ◌^◌, ◌≤ℤ◌, ◌||◌, All, [], ◌∷◌, ◌++◌, cond, false, flat_map, get_or, length, map, nat_eq, neg_ℤ, option_map, pos, slice_get, suc, unwrap_or, IfOk, OnOk};
+ghost use Rattle.hs_base.specs.Bounds.{apart, fixed_bounds, is_fixed, on_some};
+ghost use Rattle.hs_base.specs.Checked.{fixed_of};
+ghost use Rattle.hs_base.specs.Missions.{IsMission};
+ghost use Rattle.hs_base.specs.Points.{value_of};
+ghost use Rattle.hs_base.specs.Ranges.{InRange, whole};
+ghost use Rattle.hs_base.specs.Schedule.{bound};
+ghost use Rattle.plan_check.specs.Fixing.{AreFlags};
+ghost use Rattle.plan_check.specs.Seen.{seen};
+ghost use Rattle.search_tree.specs.Begun.{begun_of, stub};
+ghost use Rattle.search_tree.specs.Outset.{MayBegin};
+ghost use Rattle.search_tree.specs.Partial.{begin};
+ghost use Rattle.search_tree.specs.PartialBounds.{begun_bounds, root_bounds};
+ghost use Rattle.stn_distance.specs.Ranges.{IsInRange};
+ghost use Rattle.stn_trail.specs.declared.part.Part.TheVariants.{Added};
+ghost use Rattle.timeline_db.specs.Kept.{tick_of};
+ghost use Rattle.timeline_db.specs.Lines.{row_of};
+ghost use Rattle.timeline_db.specs.Opening.{line_bounds, own_bounds};
+ghost use Rattle.timeline_db.specs.Plannings.{IsOpen};
+ghost use Rattle.token_net.specs.Rows.{since_rows};
+
+use crate::bounding::{push_apart, push_exactly, push_from};
+use crate::course::{Course, add_all};
+use crate::draft::Draft;
+use crate::laying::lay_out;
+use crate::line::Line;
+use crate::lookups::value_at;
+use crate::{Db, Token};
+use hs_base::{Bound, Copies, Extension, LAST, Memory, Mission, PointId, Range, Time};
+use plan_check::Snapshot;
+use search_tree::Held;
+use std::alloc::Global;
+use stn_distance::POINTS;
+use stn_trail::Trail;
+use token_net::{bounds, points};
+
+const WHOLE: Range = Range { low: 0, high: LAST };
+
+/// Sets the flags of points.
+fn flag(flags: &mut [bool], times: &[Time])
+    requires { All (λ t. t.point.0 < length flags.old) times.now }
+    ensures flags { (x : ℕ) → get_or flags.new x false ≡ (get_or flags.old x false || list_any (λ t. nat_eq t.point.0 x) times.now) }
+    ensures size { length flags.new ≡ length flags.old }
+{
+    for time in times {
+        flags[time.point.0 as usize] = true;
+    }
+}
+
+/// A flag for each point, set where an extension fixes it.
+fn flags_of(alloc: Global, points: usize, extensions: &[Extension]) -> Result<Vec<bool>, Memory>
+    requires { AllByRecursion (λ t. t.point.0 < points) (fixed_of extensions.now) }
+    ensures flags { IfOk result (λ v. AreFlags extensions.now v.items) }
+    ensures size { IfOk result (λ v. length v.items ≡ points) }
+{
+    let mut flags = vec![in alloc; false; points]?;
+    for extension in extensions {
+        flag(&mut flags, extension.fixed.as_slice());
+    }
+    Ok(flags)
+}
+
+/// A flag for each point up to the next horizon's, set where it is fixed.
+fn opening_flags(alloc: Global, snapshot: &Snapshot, mark: u32) -> Result<Vec<bool>, Memory>
+    requires base { AllByRecursion (λ t. t.point.0 ≤ mark) (fixed_of snapshot.now.plan.plan.extensions) }
+    requires fixed { AllByRecursion (λ t. t.point.0 ≤ mark) snapshot.now.fixed }
+    ensures flags { IfOk result (λ v. AreFlags (stub (begun_of (seen snapshot.now))) v.items) }
+    ensures size { IfOk result (λ v. length v.items ≡ mark + 1) }
+{
+    let extensions = snapshot.plan.plan().extensions.as_slice();
+    let mut flags = flags_of(alloc, mark as usize + 1, extensions)?;
+    flag(&mut flags, snapshot.fixed.as_slice());
+    Ok(flags)
+}
+
+/// The fixed points have their times.
+#[tactic(auto, using(token_net::proofs::ItemLemmas::flat_more))]
+fn push_fixed(made: &mut Vec<Bound>, times: &[Time]) -> Result<(), Memory>
+    requires { All (λ t. pos 0 ≤ℤ t.at) times.now }
+    ensures { OnOk result (made.new.items ≡ made.old.items ++ fixed_bounds times.now) }
+{
+    for time in times {
+        push_exactly(made, time.point.0, time.at)?;
+    }
+    Ok(())
+}
+
+/// A point that is not fixed stands at that time or later.
+fn push_since_at(
+    made: &mut Vec<Bound>,
+    is_fixed: bool,
+    point: u32,
+    since: i64,
+) -> Result<(), Memory>
+    requires { pos 0 ≤ℤ since }
+    ensures { OnOk result (made.new.items ≡ made.old.items ++ cond is_fixed [] (bound point 0 (neg_ℤ since) ∷ [])) }
+{
+    if is_fixed {
+        return Ok(());
+    }
+    push_from(made, point, since)
+}
+
+/// The points but Z that are not fixed stand at that time or later.
+#[tactic(auto, using(token_net::proofs::ItemLemmas::flat_numbers))]
+fn push_since(made: &mut Vec<Bound>, flags: &[bool], since: i64) -> Result<(), Memory>
+    requires some { 1 ≤ length flags.now }
+    requires few { length flags.now < 2 ^ 32 }
+    requires time { pos 0 ≤ℤ since }
+    ensures { OnOk result (made.new.items ≡ made.old.items ++ since_rows flags.now (length flags.now) since) }
+{
+    for x in 1..flags.len() {
+        push_since_at(made, flags[x], x as u32, since)?;
+    }
+    Ok(())
+}
+
+/// The tick of the horizon behind so many.
+fn tick_at(mission: &Mission, horizons: usize) -> i64
+    ensures { result ≡ unwrap_or (option_map (λ h. h.tick) (slice_get mission.now.horizons horizons)) (pos 0) }
+{
+    match mission.horizons.as_slice().get(horizons) {
+        Some(horizon) => horizon.tick,
+        None => 0,
+    }
+}
+
+/// The bounds that are known without a new token.
+fn known_bounds(alloc: Global, snapshot: &Snapshot) -> Result<Vec<Bound>, Memory>
+    requires { MayBegin snapshot.now.plan.mission (begun_of (seen snapshot.now)) }
+    ensures { IfOk result (λ made. made.items ≡ begun_bounds snapshot.now.plan.mission (begun_of (seen snapshot.now))) }
+{
+    let mission = snapshot.plan.mission();
+    let plan = snapshot.plan.plan();
+    let mark = points(plan);
+    let flags = opening_flags(alloc, snapshot, mark)?;
+    let mut made = bounds(alloc, mission, plan)?.into_vec();
+    push_exactly(&mut made, mark, tick_at(mission, plan.extensions.len()))?;
+    push_apart(&mut made, mark, 0, WHOLE)?;
+    push_fixed(&mut made, snapshot.fixed.as_slice())?;
+    push_since(&mut made, &flags, snapshot.since)?;
+    Ok(made)
+}
+
+/// A new token lasts as long as its value may.
+#[tactic(auto, using(base_laws::proofs::MissionLemmas::lasts_low))]
+fn push_lasting(made: &mut Vec<Bound>, mission: &Mission, held: Held) -> Result<(), Memory>
+    requires { IsMission mission.now }
+    ensures { OnOk result (made.new.items ≡ made.old.items ++ on_some (value_of mission.now held.kind) (λ v. apart held.stop held.start v.lasts)) }
+{
+    match value_at(mission, held.kind) {
+        Some(value) => push_apart(made, held.stop, held.start, value.lasts),
+        None => Ok(()),
+    }
+}
+
+/// All bounds of a new token by itself. `mark` is the point of the next horizon.
+fn push_first(
+    made: &mut Vec<Bound>,
+    mission: &Mission,
+    mark: u32,
+    since: i64,
+    held: Held,
+) -> Result<(), Memory>
+    requires mission { IsMission mission.now }
+    requires since { InRange whole since }
+    ensures { OnOk result (made.new.items ≡ made.old.items ++ own_bounds mission.now mark since held) }
+{
+    push_apart(made, held.start, 0, WHOLE)?;
+    push_apart(made, held.stop, 0, WHOLE)?;
+    push_lasting(made, mission, held)?;
+    made.push(Bound {
+        from: PointId(mark),
+        to: PointId(held.start),
+        most: -1,
+    })?;
+    push_from(made, held.stop, since)
+}
+
+/// The bounds of new tokens by themselves.
+#[tactic(auto, using(token_net::proofs::ItemLemmas::flat_more))]
+fn push_firsts(
+    made: &mut Vec<Bound>,
+    mission: &Mission,
+    mark: u32,
+    since: i64,
+    tokens: &[Token],
+) -> Result<(), Memory>
+    requires mission { IsMission mission.now }
+    requires since { InRange whole since }
+    ensures { OnOk result (made.new.items ≡ made.old.items ++ flat_map (λ t. own_bounds mission.now mark since t.held) tokens.now) }
+{
+    for token in tokens {
+        push_first(made, mission, mark, since, token.held)?;
+    }
+    Ok(())
+}
+
+/// The bounds of the new tokens of timelines by themselves.
+#[tactic(auto, using(token_net::proofs::ItemLemmas::flat_more))]
+fn push_lines(
+    made: &mut Vec<Bound>,
+    mission: &Mission,
+    mark: u32,
+    since: i64,
+    lines: &[Line],
+) -> Result<(), Memory>
+    requires mission { IsMission mission.now }
+    requires since { InRange whole since }
+    requires given { All (λ s. s.given ≤ length s.tokens) lines.now }
+    ensures { OnOk result (made.new.items ≡ made.old.items ++ flat_map (line_bounds mission.now mark since) lines.now) }
+{
+    for line in lines {
+        push_firsts(made, mission, mark, since, line.added())?;
+    }
+    Ok(())
+}
+
+/// The bounds with which a search begins.
+fn opening_bounds(alloc: Global, snapshot: &Snapshot, lines: &[Line]) -> Result<Vec<Bound>, Memory>
+    requires begins { MayBegin snapshot.now.plan.mission (begun_of (seen snapshot.now)) }
+    requires rows { map row_of lines.now ≡ (begin snapshot.now.plan.mission (begun_of (seen snapshot.now))).rows }
+    requires given { All (λ s. s.given ≤ length s.tokens) lines.now }
+    ensures { IfOk result (λ made. made.items ≡ root_bounds snapshot.now.plan.mission (begun_of (seen snapshot.now)) (begin snapshot.now.plan.mission (begun_of (seen snapshot.now)))) }
+{
+    let mut made = known_bounds(alloc, snapshot)?;
+    let mark = points(snapshot.plan.plan());
+    push_lines(
+        &mut made,
+        snapshot.plan.mission(),
+        mark,
+        snapshot.since,
+        lines,
+    )?;
+    Ok(made)
+}
+
+/// A trail of these bounds. Where a search begins they have a schedule, so only memory may be
+/// wanting.
+fn trail_of(alloc: Global, points: u32, bounds: &[Bound]) -> Result<Trail, Memory>
+    requires points { (1 ≤ points) × (points ≤ POINTS) }
+    requires range { All (IsInRange points) bounds.now }
+    ensures first { IfOk result (λ t. t.first ≡ points) }
+    ensures parts { IfOk result (λ t. t.parts ≡ map (λ b. Added b) bounds.now) }
+{
+    let mut trail = Trail::begin(alloc, points)?;
+    match add_all(&mut trail, bounds) {
+        Ok(()) => Ok(trail),
+        Err(_) => Err(Memory),
+    }
+}
+
+/// How many points are fixed.
+fn count_fixed(extensions: &[Extension], fixed: &[Time]) -> usize
+    requires { length (fixed_of extensions.now) + length fixed.now < 2 ^ 64 }
+    ensures { result ≡ length (fixed_of extensions.now) + length fixed.now }
+{
+    let mut count = fixed.len();
+    for extension in extensions {
+        count += extension.fixed.len();
+    }
+    count
+}
+
+impl Db {
+    /// The partial plan with which a search for the next horizon begins: the plan's tokens, or a
+    /// first one of each variable, with each timeline open.
+    pub fn begin(alloc: Global, snapshot: &Snapshot) -> Result<Db, Memory>
+        requires { MayBegin snapshot.now.plan.mission (begun_of (seen snapshot.now)) }
+        ensures begins { IfOk result (λ d. d ≡ record { mission = snapshot.now.plan.mission; begun = begun_of (seen snapshot.now); parts = [] }) }
+        ensures kept { IfOk result IsOpen }
+    {
+        let board = lay_out(alloc, snapshot)?;
+        let made = opening_bounds(alloc, snapshot, &board.lines)?;
+        let trail = trail_of(alloc, board.points, &made)?;
+        let extensions = snapshot.plan.plan().extensions.as_slice();
+        let tick = tick_at(snapshot.plan.mission(), extensions.len());
+        let settled = count_fixed(extensions, snapshot.fixed.as_slice());
+        Ok(Db {
+            alloc,
+            base: snapshot.plan.copy(alloc)?,
+            since: snapshot.since,
+            fixed: snapshot.fixed.copy(alloc)?,
+            tick,
+            settled,
+            draft: Draft {
+                board,
+                course: Course::begin(alloc, trail),
+                made: Vec::new(alloc),
+            },
+        })
+    }
+}
