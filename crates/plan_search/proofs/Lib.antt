@@ -1,0 +1,4 @@
+pub mod FewLemmas
+pub mod SearchLemmas
+pub mod TurnLemmas
+pub mod OutsetLemmas

@@ -1,0 +1,5 @@
+pub mod Descends
+pub mod Searched
+pub mod Told
+pub mod Visits
+pub mod First
