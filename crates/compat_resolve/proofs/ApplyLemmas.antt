@@ -29,7 +29,6 @@ use Rattle.search_tree.specs.declared.flaw.Resolver.{Resolver}
 use Rattle.search_tree.specs.declared.flaw.Resolver.TheVariants.{Connect, Defer, Finish, Follow, Insert, Join}
 use Rattle.search_tree.specs.declared.part.Part.{Part}
 use Rattle.search_tree.specs.declared.part.Part.TheVariants.{Inserted}
-use Rattle.search_laws.specs.Good as timeline
 use Rattle.timeline_db.specs.Heads.{IsHead}
 use Rattle.timeline_db.specs.Plannings.{Does, Planning, partial_of}
 use Rattle.timeline_db.specs.Shutting.{IfCycle, IfCycleOrFull}
@@ -115,7 +114,7 @@ parts_insert p (NeedFlaw t k) v j value = refl
 parts_insert p (GapFlaw w i) v j value = refl
 
 -- the parts of a listed resolver of the first flaw may be done, and there are some
-pub listed_allowed : (d : Planning) (f : Flaw) (r : Resolver) → MayBegin d.mission d.begun → timeline.AreAllowed d.mission d.begun (begin d.mission d.begun) d.parts → IsHead (flaws d.mission d.begun (partial_of d)) f → Contains (resolvers d.mission d.begun (partial_of d) f) r → MayDoParts d (parts_of (partial_of d) f r)
+pub listed_allowed : (d : Planning) (f : Flaw) (r : Resolver) → MayBegin d.mission d.begun → AreAllowed d.mission d.begun (begin d.mission d.begun) d.parts → IsHead (flaws d.mission d.begun (partial_of d)) f → Contains (resolvers d.mission d.begun (partial_of d) f) r → MayDoParts d (parts_of (partial_of d) f r)
 listed_allowed d f r may allowed head listed = resolver_allowed d.mission d.begun (partial_of d) f r may (made_good d may allowed) (0, ap (λ l. slice_get l 0) head.is) (contained_at (resolvers d.mission d.begun (partial_of d) f) r listed)
 
 does_some : (m : Mission) (b : Begun) (p : Partial) (f : Flaw) (r : Resolver) → IsResolver m b p f r → parts_of p f r ≡ [] → ⊥

@@ -13,7 +13,7 @@ use Rattle.hs_base.specs.declared.plan.TokenRef.{TokenRef}
 use Rattle.search_laws.proofs.FlawLemmas.{HasSlot, IsFlaw, flaw_is}
 use Rattle.search_laws.proofs.GoodLemmas.{good_all, good_root}
 use Rattle.search_laws.specs.Good.{AreAllowed, IsGood}
-use Rattle.search_tree.proofs.CellLemmas.{each_from_at, given_cell, length-cells, length-held, row_at}
+use Rattle.search_tree.proofs.CellLemmas.{each_from_at, length-map', row_at}
 use Rattle.search_tree.proofs.SizeLemmas.{tokens_few}
 use Rattle.search_tree.proofs.SoundLemmas.{cell_variable}
 use Rattle.search_tree.specs.Begun.{Begun}
@@ -29,47 +29,17 @@ use Rattle.search_tree.specs.declared.flaw.Flaw.TheVariants.{Gap as GapFlaw, Nee
 use Rattle.search_tree.specs.declared.held.Cell.{Cell}
 use Rattle.search_tree.specs.declared.held.Held.{Held}
 use Rattle.search_tree.specs.declared.part.Part.{Part}
-use Rattle.search_laws.specs.Good as timeline
 use Rattle.timeline_db.specs.Heads.{IsHead}
 use Rattle.timeline_db.specs.Lines.{Shown, cell_of, row_of}
 use Rattle.timeline_db.specs.Plannings.{Planning, partial_of}
 use Rattle.timeline_db.specs.Tracked.{IsLine}
 use Rattle.timeline_db.specs.declared.token.Token.{Token}
+use Rattle.timeline_db.proofs.PictureLemmas.{cells-row}
+use Rattle.timeline_db.proofs.TotalLemmas.{row_few}
 
--- the tokens of a row as its line shows them
-joined_cells : (ts : List Token) → AllByRecursion (λ (t : Token). t.joined ≡ true) ts → map given_cell (map (λ (t : Token). t.held) ts) ≡ map cell_of ts
-joined_cells [] h = refl
-joined_cells (t ∷ ts) h = ap (λ j. record { held = t.held; joined = j } ∷ map given_cell (map (λ (t : Token). t.held) ts)) (sym h.0) ∙ ap (λ l. cell_of t ∷ l) (joined_cells ts h.1)
-
-map-append : {X Y : Type 0} (f : X → Y) (xs ys : List X) → map f xs ++ map f ys ≡ map f (xs ++ ys)
-map-append f [] ys = refl
-map-append f (x ∷ xs) ys = ap (λ l. f x ∷ l) (map-append f xs ys)
-
-pub cells_shown : (s : Shown) → IsLine s → cells (row_of s) ≡ map cell_of s.tokens
-cells_shown s line =
-    ap (λ l. l ++ map cell_of (drop s.given s.tokens)) (joined_cells (take s.given s.tokens) line.joined)
-    ∙ map-append cell_of (take s.given s.tokens) (drop s.given s.tokens) ∙ ap (map cell_of) (take-append-drop s.given s.tokens)
-
-pub length-shown : (ts : List Token) → length (map cell_of ts) ≡ length ts
-length-shown [] = refl
-length-shown (t ∷ ts) = ap suc (length-shown ts)
-
--- the parts were allowed
-pub allowed_parts : (m : Mission) (b : Begun) (p : Partial) (xs : List Part) → timeline.AreAllowed m b p xs → AreAllowed m b p xs
-allowed_parts m b p [] h = tt
-allowed_parts m b p (x ∷ xs) h = (h.0, allowed_parts m b (do_part p x) xs h.1)
-
-pub made_good : (d : Planning) → MayBegin d.mission d.begun → timeline.AreAllowed d.mission d.begun (begin d.mission d.begun) d.parts → IsGood d.mission d.begun (partial_of d)
-made_good d may allowed = good_all d.mission d.begun (begin d.mission d.begun) d.parts (allowed_parts d.mission d.begun (begin d.mission d.begun) d.parts allowed) (good_root d.mission d.begun may)
-
-length-filter : {X : Type 0} (test : X → Bool) (xs : List X) → length (filter test xs) ≤ length xs
-length-filter test [] = omega arith
-length-filter test (x ∷ xs) = elim (cases_Bool (test x)) [ inl t ↦ rw t (let h = length-filter test xs in omega arith) | inr t ↦ rw t (let h = length-filter test xs in omega arith) ]
-
-added_few : (rows : List Row) (v : ℕ) (r : Row) → slice_get rows v ≡ Some r → length r.added ≤ length (flat_map (λ (r : Row). r.added) rows)
-added_few [] v r is = absurd (cc)
-added_few (q ∷ rows) zero r is = let same : q ≡ r = cc in omega (arith, length-append q.added (flat_map (λ (r : Row). r.added) rows), ap (λ (x : Row). length x.added) same)
-added_few (q ∷ rows) (suc v) r is = omega (arith, length-append q.added (flat_map (λ (r : Row). r.added) rows), added_few rows v r is)
+-- the partial plan that allowed parts made is good
+pub made_good : (d : Planning) → MayBegin d.mission d.begun → AreAllowed d.mission d.begun (begin d.mission d.begun) d.parts → IsGood d.mission d.begun (partial_of d)
+made_good d may allowed = good_all d.mission d.begun (begin d.mission d.begun) d.parts allowed (good_root d.mission d.begun may)
 
 module _ (m : Mission) (b : Begun) (p : Partial) (may : MayBegin m b) (good : IsGood m b p) where
   row_is : (v : ℕ) → (slice_get p.rows v ≡ Some (row p v)) ⊎ (row p v ≡ no_row)
@@ -86,21 +56,16 @@ module _ (m : Mission) (b : Begun) (p : Partial) (may : MayBegin m b) (good : Is
   -- a row has few tokens
   pub few_cells : (v : ℕ) → length (cells (row p v)) ≤ 131072
   few_cells v = elim (row_is v) [
-    | inl is ↦
-        let given = ap length (row_of_plan v (row p v) is).given ∙ length-held b v 0 (timeline_of (tokens_of b.base) v) in
-        let left = slice_get_within m.horizons (length b.base) may.horizon may.is_horizon in
-        let most = may.checked.mission.few_horizons in
-        let few = good.few in
-        omega (arith, length-cells (row p v), given, length-filter (λ (k : Kind). nat_eq k.sv.0 v) (tokens_of b.base), tokens_few m b.base may.checked.rules, added_few p.rows v (row p v) is)
+    | inl is ↦ let few = row_few m b p may good v (row p v) is in omega arith
     | inr none ↦ rw none (omega arith)
   ]
 
   module _ (v : ℕ) (s : Shown) (line : IsLine s) (shows : row_of s ≡ row p v) where
     shown : cells (row p v) ≡ map cell_of s.tokens
-    shown = ap cells (sym shows) ∙ cells_shown s line
+    shown = ap cells (sym shows) ∙ cells-row s line.joined
 
     pub few_tokens : length s.tokens < 2 ^ 32
-    few_tokens = let few = few_cells v in omega (arith, ap length shown, length-shown s.tokens)
+    few_tokens = let few = few_cells v in omega (arith, ap length shown, length-map' cell_of s.tokens)
 
     pub own_tokens : AllByRecursion (λ (t : Token). t.held.kind.sv.0 ≡ v) s.tokens
     own_tokens = each_from_at (λ (t : Token). t.held.kind.sv.0 ≡ v) s.tokens (λ i t here.
@@ -112,7 +77,7 @@ module _ (m : Mission) (b : Begun) (p : Partial) (may : MayBegin m b) (good : Is
 
     pub some_tokens : s.finished ≡ false → 0 < length s.tokens
     some_tokens ajar = elim (row_is v) [
-      | inl is ↦ let some = (row_of_plan v (row p v) is).some in omega (arith, ap length shown, length-shown s.tokens)
+      | inl is ↦ let some = (row_of_plan v (row p v) is).some in omega (arith, ap length shown, length-map' cell_of s.tokens)
       | inr none ↦ absurd (false≢true (sym ajar ∙ ap (λ (r : Row). r.finished) (shows ∙ none)))
     ]
 

@@ -5,7 +5,6 @@ use Rattle.std.proofs.lemmas.Option.{get_or_from_slice_get, slice_get-get_or, sl
 use Rattle.std.specs.List.{AllByRecursion, list_any}
 use Rattle.std.specs.Prelude.{get_or, option_map}
 use Rattle.base_laws.proofs.ListLemmas.{each_at}
-use Rattle.compat_resolve.proofs.LineLemmas.{length-shown}
 use Rattle.compat_resolve.specs.Listed.{closing, connects, inserts}
 use Rattle.hs_base.specs.Needs.{same_kind}
 use Rattle.hs_base.specs.declared.ids.SvId.{SvId}
@@ -25,25 +24,9 @@ use Rattle.search_tree.specs.declared.held.Held.{Held}
 use Rattle.timeline_db.specs.Heads.{IsHead}
 use Rattle.timeline_db.specs.Lines.{Shown, cell_of, nothing_held}
 use Rattle.timeline_db.specs.declared.token.Token.{Token}
-
--- the rest of a list begins with the element of that place
-pub drop_at : {X : Type 0} (xs : List X) (i : ℕ) (x : X) → slice_get xs i ≡ Some x → drop i xs ≡ x ∷ drop (suc i) xs
-drop_at [] i x is = absurd (cc)
-drop_at (y ∷ xs) zero x is = let same : y ≡ x = cc in ap (λ z. z ∷ xs) same
-drop_at (y ∷ xs) (suc i) x is = drop_at xs i x is
-
-pub drop_past : {X : Type 0} (xs : List X) (i : ℕ) → length xs ≤ i → drop i xs ≡ []
-drop_past [] zero past = refl
-drop_past [] (suc i) past = refl
-drop_past (x ∷ xs) zero past = absurd (omega arith)
-drop_past (x ∷ xs) (suc i) past = drop_past xs i (omega arith)
-
--- first elements of joined lists
-pub head_left : {X : Type 0} (xs ys : List X) (x : X) → IsHead xs x → IsHead (xs ++ ys) x
-head_left xs ys x h = record { rest = h.rest ++ ys; is = ap (λ l. l ++ ys) h.is }
-
-pub head_right : {X : Type 0} (xs ys : List X) (x : X) → xs ≡ [] → IsHead ys x → IsHead (xs ++ ys) x
-head_right xs ys x none h = record { rest = h.rest; is = ap (λ l. l ++ ys) none ∙ h.is }
+use Rattle.std.proofs.lemmas.List.{map-append}
+use Rattle.search_tree.proofs.CellLemmas.{length-map'}
+use Rattle.timeline_db.proofs.ExtendingLemmas.{drop_at, drop_past}
 
 -- the slots behind tokens: the gaps, and the open end
 slots_both : (finished : Bool) (i : ℕ) (cs : List Cell) → slots_after finished i cs ≡ slots_after true i cs ++ cond finished [] ((i + length cs) ∷ [])
@@ -138,17 +121,13 @@ gaps_miss k i ts d list next total below some shut inv same =
 
 pub gaps_end : (k : Kind) (i : ℕ) (ts : List Token) (list total : List Resolver) → length ts ≤ i → list ++ inserts k (slots_after true (i - 1) (drop i (map cell_of ts))) ≡ total → list ≡ total
 gaps_end k i ts list total past inv =
-    let none = drop_past (map cell_of ts) i (omega (arith, length-shown ts)) in
+    let none = drop_past (map cell_of ts) i (omega (arith, length-map' cell_of ts)) in
     sym (append-nil list) ∙ ap (λ cs. list ++ inserts k (slots_after true (i - 1) cs)) (sym none) ∙ inv
-
-map-append : {X Y : Type 0} (f : X → Y) (xs ys : List X) → map f (xs ++ ys) ≡ map f xs ++ map f ys
-map-append f [] ys = refl
-map-append f (x ∷ xs) ys = ap (λ l. f x ∷ l) (map-append f xs ys)
 
 -- the open end comes behind the gaps
 pub inserts_done : (k : Kind) (ts us : List Token) (finished : Bool) (old mid new : List Resolver) (n : ℕ) → finished ≡ false → 0 < length ts → us ≡ ts → mid ≡ old ++ inserts k (slots_from true (map cell_of us)) → n ≡ length ts → new ≡ mid ++ Insert k.sv (n - 1) k.value ∷ [] → new ≡ old ++ inserts k (slots_from finished (map cell_of ts))
 inserts_done k ts us finished old mid new n ajar some same gaps size push =
-    let long = length-shown ts in
+    let long = length-map' cell_of ts in
     let e : n - 1 ≡ length (map cell_of ts) - 1 = omega arith in
     let all : slots_from finished (map cell_of ts) ≡ slots_from true (map cell_of ts) ++ (length (map cell_of ts) - 1) ∷ [] = slots_end finished (map cell_of ts) (omega arith) ∙ ap (λ f. slots_from true (map cell_of ts) ++ cond f [] ((length (map cell_of ts) - 1) ∷ [])) ajar in
     push ∙ ap (λ l. l ++ Insert k.sv (n - 1) k.value ∷ []) (gaps ∙ ap (λ l. old ++ inserts k (slots_from true (map cell_of l))) same)
@@ -189,7 +168,7 @@ last_none p t none = elim (cases_Bool (is_last p t)) [
 -- the closing of a gap or an open end
 pub closing_end : (ts : List Token) (i : ℕ) (next : List ValId) (old new : List Resolver) → length ts ≤ i + 1 → new ≡ old ++ Finish ∷ [] → new ≡ old ++ closing (map cell_of ts) i next
 closing_end ts i next old new past push =
-    let none : slice_get (map cell_of ts) (suc i) ≡ None = slice_get_past (map cell_of ts) (suc i) (omega (arith, length-shown ts)) in
+    let none : slice_get (map cell_of ts) (suc i) ≡ None = slice_get_past (map cell_of ts) (suc i) (omega (arith, length-map' cell_of ts)) in
     push ∙ ap (λ (o : Option Cell). old ++ elim o [ None ↦ Finish ∷ [] | Some d ↦ cond (list_any (λ (n : ValId). nat_eq n.0 d.held.kind.value.0) next) (Join ∷ []) [] ]) (sym none)
 
 closing_some : (ts : List Token) (i : ℕ) (d : Token) (next : List ValId) → i + 1 < length ts → closing (map cell_of ts) i next ≡ cond (list_any (λ (n : ValId). nat_eq n.0 (get_or ts (i + 1) d).held.kind.value.0) next) (Join ∷ []) []
@@ -223,7 +202,7 @@ module _ (m : Mission) (b : Begun) (p : Partial) (v : SvId) (i : ℕ) (ts : List
               let some : slice_get (map cell_of ts) (suc i) ≡ Some (cell_of t) = slice_get-map cell_of ts (suc i) ∙ ap (option_map cell_of) (slice_get-get_or ts (suc i) nothing_held more) in
               let f : None ≡ Some (cell_of t) = sym none ∙ some in
               absurd (cc)
-          ends_here (inr past) none = omega (arith, ap length shown, length-shown ts)
+          ends_here (inr past) none = omega (arith, ap length shown, length-map' cell_of ts)
       by_case (Some d) some =
           let there : slice_get (cells (row p v.0)) (suc i) ≡ Some d = ap (λ l. slice_get l (suc i)) shown ∙ some in
           let within = slice_get_within (cells (row p v.0)) (suc i) d there in

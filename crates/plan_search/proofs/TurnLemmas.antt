@@ -9,7 +9,6 @@ use Rattle.hs_base.specs.Walks.{EachAfter}
 use Rattle.hs_base.specs.declared.mission.Mission.{Mission}
 use Rattle.hs_base.specs.declared.plan.Extension.{Extension}
 use Rattle.base_laws.proofs.ListLemmas.{EachAfter-push, each_weaker}
-use Rattle.compat_resolve.proofs.LineLemmas.{allowed_parts}
 use Rattle.compat_resolve.specs.Applied.{Resolves}
 use Rattle.plan_search.proofs.FewLemmas.{resolvers_few}
 use Rattle.plan_search.proofs.SearchLemmas.{child_of, finds_budget, next_frame, reaches_child, searched_shut}
@@ -91,9 +90,8 @@ module _ (takes : Mission → List Extension → Bool) where
   pub path_ready : (d : Planning) (fs : List Frame) (g : Frame) (count : ℕ) → MayBegin d.mission d.begun → AreAllowed d.mission d.begun (begin d.mission d.begun) d.parts → IsSearched takes d.mission d.begun d.parts (fs ++ g ∷ []) count → AllByRecursion (λ (f : Frame). (0 < f.next) × (f.next < 2 ^ 32)) fs × (length g.resolvers < 2 ^ 32)
   path_ready d fs g count may allowed s =
       let split = EachAfter-push (IsFrame d.mission d.begun d.parts) [] fs g s.frames in
-      let parts = allowed_parts d.mission d.begun (begin d.mission d.begun) d.parts allowed in
-      let few = frame_few d.mission d.begun d.parts fs g may parts split.1 in
-      (each_few d.mission d.begun d.parts [] fs may parts split.0 (each_weaker (λ (h : Frame). (h.mark ≤ g.mark) × (0 < h.next)) (λ (h : Frame). 0 < h.next) (λ h l. l.1) fs split.1.below), omega arith)
+      let few = frame_few d.mission d.begun d.parts fs g may allowed split.1 in
+      (each_few d.mission d.begun d.parts [] fs may allowed split.0 (each_weaker (λ (h : Frame). (h.mark ≤ g.mark) × (0 < h.next)) (λ (h : Frame). 0 < h.next) (λ h l. l.1) fs split.1.below), omega arith)
 
   pub path_fits : (d : Planning) (m : Mission) (b : Begun) (all fs : List Frame) (g : Frame) (count : ℕ) → d.mission ≡ m → d.begun ≡ b → MayBegin d.mission d.begun → AreAllowed d.mission d.begun (begin d.mission d.begun) d.parts → IsSearched takes m b d.parts all count → all ≡ fs ++ g ∷ [] → AllByRecursion (λ (f : Frame). (0 < f.next) × (f.next < 2 ^ 32)) fs × (length g.resolvers < 2 ^ 32)
   path_fits d m b all fs g count mission begun may allowed s whole =

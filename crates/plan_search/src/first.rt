@@ -37,7 +37,7 @@ impl From<Memory> for Unplanned {
 }
 
 /// A mission to which nothing has happened yet.
-fn outset(alloc: Global, mission: &Mission) -> Result<Snapshot, Memory>
+pub(crate) fn outset(alloc: Global, mission: &Mission) -> Result<Snapshot, Memory>
     requires { IsMission mission.now }
     ensures mission { IfOk result (λ s. s.plan.mission ≡ mission.now) }
     ensures begun { IfOk result (λ s. begun_of (seen s) ≡ nothing_yet) }

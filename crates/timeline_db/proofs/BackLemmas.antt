@@ -1,5 +1,5 @@
 -- What a Db makes of a part that is taken back.
-use Rattle.std.proofs.Common.{◌≡◌, ℕ, ℤ, zero, suc, ◌+◌, ◌-◌, ◌<◌, ◌≤◌, true, false, List, [], ◌∷◌, ◌++◌, None, Some, length, length-append, map, set, take, remove, slice_get, flat_map, nat_eq, refl, sym, ap, ◌∙◌, subst, inl, inr, arith}
+use Rattle.std.proofs.Common.{◌≡◌, ℕ, ℤ, zero, suc, ◌+◌, ◌-◌, ◌<◌, ◌≤◌, true, false, List, [], ◌∷◌, ◌++◌, None, Some, length, length-append, map, set, take, remove, slice_get, flat_map, nat_eq, refl, sym, ap, ◌∙◌, subst, inl, inr, arith, length-set}
 use Rattle.std.proofs.lemmas.Bool.{cases_lt}
 use Rattle.std.proofs.lemmas.Option.{slice_get-get_or, slice_get_within}
 use Rattle.std.proofs.Math.Seq.{take-append_seam}
@@ -30,8 +30,8 @@ use Rattle.search_laws.proofs.GoodLemmas.{allowed-front, do_parts-append, good_a
 use Rattle.timeline_db.proofs.OwnLemmas.{token_shown}
 use Rattle.timeline_db.proofs.PictureLemmas.{cells-row, row-part, row-take_out, rows-set, take-remove}
 use Rattle.timeline_db.proofs.ServeLemmas.{served_deferred, served_supported}
-use Rattle.timeline_db.proofs.SettleLemmas.{length_set, others_same, same_tracked, tracked_earlier, tracked_kept, tracked_set, tracked_stays}
-use Rattle.timeline_db.proofs.StepLemmas.{given_shown, length-insert, line_shown, partial-same, shown_of, tokens_changed, tracked_finished, tracked_joined}
+use Rattle.timeline_db.proofs.SettleLemmas.{others_same, same_tracked, tracked_earlier, tracked_kept, tracked_set, tracked_stays}
+use Rattle.timeline_db.proofs.StepLemmas.{given_shown, length-put, line_shown, partial-same, shown_of, tokens_changed, tracked_finished, tracked_joined}
 use Rattle.timeline_db.proofs.SupportLemmas.{picture_keeps, picture_unmet}
 use Rattle.timeline_db.proofs.TrackLemmas.{from-remove, tracked_row}
 use Rattle.timeline_db.specs.Boards.{ChangesRow, HasToken, KeepsRest, TakesOut, line_at, no_line, pictured, token_of}
@@ -81,9 +81,6 @@ line_removed s i after place h = record {
   within = let l = length-remove s.tokens (suc i) place in omega arith;
   joined = subst (AllByRecursion (λ (t : Token). t.joined ≡ true)) (sym (take-remove s.tokens s.given (suc i) after)) h.joined;
 }
-
-length-put : (i : ℕ) (c : Cell) (q : Row) → length (put i c q).added ≡ 1 + length q.added
-length-put i c q = omega (arith, length-insert q.added (suc i - length q.given) c)
 
 length-close : (i : ℕ) (q : Row) → length (close i q).added ≡ 0 + length q.added
 length-close i q = omega (arith, length-at_place (λ (x : Cell). let c : Cell = record { held = x.held; joined = true } in c) (suc i - length q.given) q.added)
@@ -260,7 +257,7 @@ module _ (m : Mission) (b : Begun) (p : Partial) (fine : IsGood m b p) (board bo
   part_shown (Finished v) may h = slice_get_within board.lines.items v.0 (line_at board v.0) (row_shown m b p board v.0 0 end_row may.row may.is_row refl h).0
   part_shown (Supported t j by) may h = token_kept (do_part p (Supported t j by)) t refl may.token h
   part_shown (MetGoal g by) may h =
-      let size = length_set p.goals g (Some (held_by p by)) in
+      let size = length-set p.goals g (Some (held_by p by)) in
       let shown = ap (λ (r : Partial). length r.goals) h.shows in
       omega (arith, slice_get_within p.goals g None may.yet)
   part_shown (Deferred t j) may h = token_kept (do_part p (Deferred t j)) t refl may.token h

@@ -22,13 +22,13 @@ how_many-set test [] i t u h e = absurd (omega arith)
 how_many-set test (x ∷ ts) zero t u h e = let f : one_if (test t) ≡ one_if (test x) = ap (λ (y : Token). one_if (test y)) e in omega arith
 how_many-set test (x ∷ ts) (suc i) t u h e = let f = how_many-set test ts i t u (omega arith) e in omega arith
 
+pub one_at_most : (b : Bool) → cond b 1 0 ≤ 1
+one_at_most true = omega arith
+one_at_most false = omega arith
+
 pub how_many-most : (test : Token → Bool) (ts : List Token) → how_many test ts ≤ length ts
 how_many-most test [] = omega arith
-how_many-most test (x ∷ ts) = let e = how_many-most test ts in let f : cond (test x) 1 0 ≤ 1 = at_most (test x) in omega arith
-  where
-    at_most : (b : Bool) → cond b 1 0 ≤ 1
-    at_most true = omega arith
-    at_most false = omega arith
+how_many-most test (x ∷ ts) = let e = how_many-most test ts in let f : cond (test x) 1 0 ≤ 1 = one_at_most (test x) in omega arith
 
 -- no token passes a test that none is counted for
 pub none_counted : (test : Token → Bool) (ts : List Token) → how_many test ts ≡ 0 → (i : ℕ) (t : Token) → slice_get ts i ≡ Some t → test t ≡ false
@@ -46,7 +46,3 @@ how_many-has test ts i t h e = omega (arith, how_many-remove test ts i t h e)
 pub how_many-push : (test : Token → Bool) (ts : List Token) (t : Token) → how_many test (ts ++ t ∷ []) ≡ how_many test ts + cond (test t) 1 0
 how_many-push test [] t = omega arith
 how_many-push test (x ∷ ts) t = let e = how_many-push test ts t in omega arith
-
-pub one_at_most : (b : Bool) → cond b 1 0 ≤ 1
-one_at_most true = omega arith
-one_at_most false = omega arith

@@ -1,5 +1,5 @@
 -- How many tokens and points there are where a search begins.
-use Rattle.std.proofs.Common.{◌≡◌, ℕ, ℤ, zero, suc, ◌+◌, ◌*◌, ◌-◌, ◌≤◌, true, List, [], ◌∷◌, Option, None, Some, length, take, drop, map, flat_map, replicate, slice_get, refl, sym, ap, ◌∙◌, length-append, arith}
+use Rattle.std.proofs.Common.{◌≡◌, ℕ, ℤ, zero, suc, ◌+◌, ◌-◌, ◌≤◌, true, List, [], ◌∷◌, Option, None, Some, length, drop, map, flat_map, replicate, slice_get, refl, sym, ap, ◌∙◌, length-append, arith}
 use Rattle.std.proofs.lemmas.Option.{slice_get-get_or}
 use Rattle.hs_base.specs.Bounds.{goals_of, on_some}
 use Rattle.hs_base.specs.Points.{count}
@@ -17,15 +17,15 @@ use Rattle.search_tree.specs.Partial.{Row, begin, cells, first_cells, first_row}
 use Rattle.search_tree.specs.Resolvers.{new_tokens, tokens}
 use Rattle.search_tree.specs.declared.held.Cell.{Cell}
 use Rattle.search_tree.specs.declared.held.Held.{Held}
-use Rattle.timeline_db.proofs.FewLemmas.{row_few}
+use Rattle.timeline_db.proofs.PictureLemmas.{given_length}
 use Rattle.search_laws.proofs.GoodLemmas.{good_root}
 use Rattle.timeline_db.proofs.StepLemmas.{partial-same}
+use Rattle.timeline_db.proofs.TotalLemmas.{all_few}
 use Rattle.timeline_db.specs.Boards.{pictured}
 use Rattle.timeline_db.specs.Laying.{AreOutset}
 use Rattle.timeline_db.specs.Lines.{Shown, cell_of, row_of}
 use Rattle.timeline_db.specs.Tracked.{IsLine}
 use Rattle.timeline_db.specs.declared.board.Board.{Board}
-use Rattle.timeline_db.specs.declared.token.Token.{Token}
 
 length-dropped : {X : Type 0} (n : ℕ) (xs : List X) → length (drop n xs) ≡ length xs - n
 length-dropped zero xs = omega arith
@@ -44,38 +44,21 @@ new_counted (s ∷ lines) =
       new_counted lines,
     )
 
-given_size : (ts : List Token) (g : ℕ) → g ≤ length ts → length (map (λ (t : Token). t.held) (take g ts)) ≡ g
-given_size ts zero h = refl
-given_size [] (suc g) h = absurd (omega arith)
-given_size (t ∷ ts) (suc g) h = ap suc (given_size ts g (omega arith))
-
 -- and so are all tokens
 pub all_counted : (lines : List Shown) → ((v : ℕ) (s : Shown) → slice_get lines v ≡ Some s → IsLine s) → length (flat_map (λ (s : Shown). s.tokens) lines) ≡ length (flat_map cells (map row_of lines))
 all_counted [] h = refl
 all_counted (s ∷ lines) h =
     let line = h 0 s refl in
-    let within = line.within in
     omega (
       arith,
       length-append s.tokens (flat_map (λ (s : Shown). s.tokens) lines),
       length-append (cells (row_of s)) (flat_map cells (map row_of lines)),
       length-cells (row_of s),
-      given_size s.tokens s.given within,
+      given_length s line.within,
       length-map' cell_of (drop s.given s.tokens),
       length-dropped s.given s.tokens,
       all_counted lines (λ v q is. h (suc v) q is),
     )
-
-flat_most : {X Y : Type 0} (f : X → List Y) (xs : List X) → ((i : ℕ) (x : X) → slice_get xs i ≡ Some x → length (f x) ≤ 128128) → length (flat_map f xs) ≤ 128128 * length xs
-flat_most f [] h = omega arith
-flat_most f (x ∷ xs) h = let one = h 0 x refl in let rest = flat_most f xs (λ i y is. h (suc i) y is) in omega (arith, length-append (f x) (flat_map f xs), one, rest)
-
--- there are not too many
-pub all_few : (m : Mission) (b : Begun) → MayBegin m b → length (flat_map cells (begin m b).rows) ≤ 16400384
-all_few m b may =
-    let good = good_root m b may in
-    let vars = may.checked.mission.few_vars in
-    omega (arith, flat_most cells (begin m b).rows (λ i r is. row_few m b (begin m b) i r may good is), good.sound.one_each, vars)
 
 -- the new tokens: a first one of each variable, or none
 new_first : (m : Mission) (since : ℤ) (fixed : List Time) (w n : ℕ) → w + n ≤ length m.vars → length (flat_map (λ (r : Row). r.added) (map (first_row m (record { base = []; since = since; fixed = fixed })) (numbers_from w n))) ≡ n
@@ -114,8 +97,8 @@ module _ (m : Mission) (b : Begun) (may : MayBegin m b) (lines : List Shown) (ou
   pub added_few : length (flat_map (λ (s : Shown). drop s.given s.tokens) lines) ≤ 128
   added_few = omega (arith, added_begun, few_new_root m b may)
 
-  pub total_few : length (flat_map (λ (s : Shown). s.tokens) lines) ≤ 16400384
-  total_few = omega (arith, total_begun, all_few m b may)
+  pub total_few : length (flat_map (λ (s : Shown). s.tokens) lines) ≤ 2048000
+  total_few = omega (arith, total_begun, all_few m b (begin m b) may (good_root m b may))
 
   pub shows_begun : (board : Board) (n : ℕ) → board.lines.items ≡ lines → board.supports.items ≡ [] → n ≡ length (goals_of m (number b)) → board.goals.items ≡ replicate n None → board.deferred.items ≡ [] → board.points ≡ count b.base + 1 + new_tokens (begin m b) → pictured board ≡ begin m b
   shows_begun board n is supports size goals deferred points =

@@ -7,7 +7,7 @@ use Rattle.std.proofs.Math.Seq.{take-append_seam}
 use Rattle.hs_base.specs.Schedule.{HasNoSchedule, time_of}
 use Rattle.hs_base.specs.declared.mission.Mission.{Mission}
 use Rattle.hs_base.specs.declared.net.Bound.{Bound}
-use Rattle.base_laws.proofs.ListLemmas.{slice_get-append_left}
+use Rattle.base_laws.proofs.ListLemmas.{slice_get-append_left, slice_get-middle}
 use Rattle.search_tree.proofs.CellLemmas.{slice_get-past}
 use Rattle.search_tree.proofs.RootLemmas.{root_keeps, root_tells}
 use Rattle.search_tree.specs.Begun.{Begun}
@@ -151,7 +151,7 @@ pub course_back : (m : Mission) (b : Begun) (front : List Step) (s : Step) (trai
 course_back m b front s trail trail' c l = record {
   first = l.first ∙ c.first;
   parts =
-      let last : slice_get (front ++ s ∷ []) (length front) ≡ Some s = here front in
+      let last : slice_get (front ++ s ∷ []) (length front) ≡ Some s = slice_get-middle front s [] in
       let mark : s.mark ≡ length (trail_parts m b (parts_of front)) =
       c.marks (length front) s last ∙ ap (λ (xs : List Part). length (trail_parts m b xs)) (ap (take (length front)) (parts-push front s) ∙ ap (λ (n : ℕ). take n (parts_of front ++ s.part ∷ [])) (sym (length-parts front)) ∙ take-append_seam (parts_of front) (s.part ∷ [])) in
       l.parts ∙ ap (take s.mark) (c.parts ∙ ap (trail_parts m b) (parts-push front s) ∙ trail-append m b (parts_of front) (s.part ∷ []))
@@ -163,7 +163,3 @@ course_back m b front s trail trail' c l = record {
       let same : take k (parts_of (front ++ s ∷ [])) ≡ take k (parts_of front) = ap (take k) (parts-push front s) ∙ take-append-le k (parts_of front) (s.part ∷ []) (let n = length-parts front in omega arith) in
       c.marks k q at ∙ ap (λ (xs : List Part). length (trail_parts m b xs)) same;
 }
-  where
-    here : (xs : List Step) → slice_get (xs ++ s ∷ []) (length xs) ≡ Some s
-    here [] = refl
-    here (x ∷ xs) = here xs

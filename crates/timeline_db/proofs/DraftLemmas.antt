@@ -1,5 +1,5 @@
 -- What the changes of a draft make of a Db.
-use Rattle.std.proofs.Common.{◌≡◌, ℕ, ℤ, zero, suc, ◌+◌, ◌-◌, ◌≤◌, true, List, [], ◌∷◌, ◌++◌, Some, length, map, insert, set, take, get_or, slice_get, refl, sym, ap, ◌∙◌, subst, length-append, arith}
+use Rattle.std.proofs.Common.{◌≡◌, ℕ, ℤ, suc, ◌-◌, ◌≤◌, true, List, [], ◌∷◌, ◌++◌, Some, length, map, insert, take, slice_get, refl, sym, ap, ◌∙◌, subst, length-append, arith}
 use Rattle.std.proofs.Math.Seq.{take-append_seam}
 use Rattle.std.proofs.lemmas.Option.{slice_get_within}
 use Rattle.hs_base.specs.Needs.{needs_of}
@@ -18,7 +18,7 @@ use Rattle.stn_trail.specs.Held.{Leaves, Held as Trailed}
 use Rattle.stn_trail.specs.declared.part.Part.{Part as TrailPart}
 use Rattle.timeline_db.proofs.FactLemmas.{good, line, size_is}
 use Rattle.timeline_db.proofs.PictureLemmas.{row-close, row-put}
-use Rattle.timeline_db.proofs.StepLemmas.{counted_row, db_done, given_shown, partial-same, picture_row, shown_of, tracked_finished, tracked_joined, tracked_put}
+use Rattle.timeline_db.proofs.StepLemmas.{counted_row, db_done, given_shown, length-put, partial-same, picture_row, shown_of, tracked_finished, tracked_joined, tracked_put}
 use Rattle.timeline_db.specs.Boards.{ChangesRow, Puts, line_at, no_line, pictured}
 use Rattle.timeline_db.specs.Courses.{Gains, IsSame, parts_with}
 use Rattle.timeline_db.specs.Databases.{IsDb}
@@ -29,13 +29,15 @@ use Rattle.timeline_db.specs.Tracked.{AreTracked}
 use Rattle.timeline_db.specs.declared.board.Board.{Board}
 use Rattle.timeline_db.specs.declared.course.Step.{Step}
 use Rattle.timeline_db.specs.declared.token.Token.{Token}
+use Rattle.base_laws.proofs.ListLemmas.{slice_get-middle}
+use Rattle.std.proofs.lemmas.List.{set-get_or}
 
 -- a part that is taken back right away leaves nothing
 pub back_same : (old mid new : Trailed) (steps steps' steps'' : List Step) (s : Step) (more : List TrailPart) → Gains more old mid → steps' ≡ steps ++ s ∷ [] → s.mark ≡ length old.parts
     → ((q : Step) → slice_get steps' (length steps' - 1) ≡ Some q → Leaves q.mark mid new) → steps'' ≡ take (length steps' - 1) steps' → IsSame old new × (steps'' ≡ steps)
 back_same old mid new steps steps' steps'' s more g e mark leaves is =
     let size : length steps' - 1 ≡ length steps = omega (arith, ap length e, length-append steps (s ∷ [])) in
-    let last : slice_get steps' (length steps' - 1) ≡ Some s = ap (slice_get steps') size ∙ ap (λ (l : List Step). slice_get l (length steps)) e ∙ here steps in
+    let last : slice_get steps' (length steps' - 1) ≡ Some s = ap (slice_get steps') size ∙ ap (λ (l : List Step). slice_get l (length steps)) e ∙ slice_get-middle steps s [] in
     let l = leaves s last in (
       record {
         first = l.first ∙ g.first;
@@ -43,20 +45,10 @@ back_same old mid new steps steps' steps'' s more g e mark leaves is =
       },
       is ∙ ap (λ (n : ℕ). take n steps') size ∙ ap (take (length steps)) e ∙ take-append_seam steps (s ∷ []),
     )
-  where
-    here : (xs : List Step) → slice_get (xs ++ s ∷ []) (length xs) ≡ Some s
-    here [] = refl
-    here (x ∷ xs) = here xs
-
-set-same : {X : Type 0} (xs : List X) (v : ℕ) (d : X) → set xs v (get_or xs v d) ≡ xs
-set-same [] zero d = refl
-set-same [] (suc v) d = refl
-set-same (x ∷ xs) zero d = refl
-set-same (x ∷ xs) (suc v) d = ap (λ ys. x ∷ ys) (set-same xs v d)
 
 pub keeps_board : (old new : Board) (v : ℕ) → ChangesRow v (line_at old v) old new → KeepsBoard old new
 keeps_board old new v c = record {
-  lines = c.lines ∙ set-same old.lines.items v no_line;
+  lines = c.lines ∙ set-get_or old.lines.items v no_line;
   supports = c.rest.supports;
   goals = c.rest.goals;
   deferred = c.rest.deferred;
@@ -114,15 +106,6 @@ module _ (m : Mission) (b : Begun) (tick : ℤ) (settled : ℕ) (board board' : 
       (picture_row board board' v.0 0 (record s { finished = true }) end_row c.lines c.rest (let e = c.points in omega arith) refl ∙ ap (λ (q : Partial). do_part q (Finished v)) d.shows)
       (counted_row p board board' v.0 0 0 end_row may.row may.is_row d.counts (let e = c.added in omega arith) (let e = c.total in omega arith) (λ q. omega arith) (λ q. refl))
       (subst (AreTracked m b (do_part p (Finished v))) (sym c.lines) (tracked_finished m b p (at_place end_row v.0 p.rows) board.lines.items v.0 s true d.tracked l.0))
-
-  length-put : (i : ℕ) (c : Cell) (q : Row) → length (put i c q).added ≡ 1 + length q.added
-  length-put i c q = omega (arith, length-insert q.added (suc i - length q.given))
-    where
-      length-insert : (xs : List Cell) (k : ℕ) → length (insert xs k c) ≡ suc (length xs)
-      length-insert [] zero = refl
-      length-insert [] (suc k) = refl
-      length-insert (y ∷ xs) zero = refl
-      length-insert (y ∷ xs) (suc k) = ap suc (length-insert xs k)
 
   -- where a token may be put, the code may put one
   pub slot_there : (v i : ℕ) (r : Row) → slice_get p.rows v ≡ Some r → IsSlot i r → ((line_at board v).given ≤ suc i) × (suc i ≤ length (line_at board v).tokens)

@@ -1,5 +1,5 @@
 -- The extension of a partial plan, from its tokens, supports and goals as the code keeps them.
-use Rattle.std.proofs.Common.{◌≡◌, ℕ, ℤ, zero, suc, ◌+◌, ◌-◌, ◌<◌, ◌≤◌, Bool, true, false, nat_eq, ◌&&◌, ◌||◌, List, [], ◌∷◌, ◌++◌, append-nil, Some, cond, length, take, drop, filter, flat_map, map, slice_get, refl, sym, ap, ◌∙◌, inl, inr, arith}
+use Rattle.std.proofs.Common.{◌≡◌, ℕ, ℤ, zero, suc, ◌+◌, ◌-◌, ◌<◌, ◌≤◌, Bool, true, false, nat_eq, ◌&&◌, List, [], ◌∷◌, ◌++◌, append-nil, Some, cond, length, take, drop, filter, flat_map, map, slice_get, refl, sym, ap, ◌∙◌, inl, inr, arith}
 use Rattle.std.proofs.lemmas.Bool.{and_parts, cases_Bool, cases_eq, eq-eqb, eqb-true, false≢true, ne_eqb}
 use Rattle.std.proofs.lemmas.List.{append_assoc, flat_map_more, get_or_past, take_more}
 use Rattle.std.proofs.lemmas.List.Elements.{filter-append}
@@ -46,6 +46,7 @@ use Rattle.timeline_db.specs.Tracked.{IsLine}
 use Rattle.timeline_db.specs.declared.board.Board.{Board}
 use Rattle.timeline_db.specs.declared.course.Step.{Step}
 use Rattle.timeline_db.specs.declared.token.Token.{Token}
+use Rattle.timeline_db.proofs.SettleLemmas.{or_none}
 
 -- the rest of a list begins with the element of that place
 pub drop_at : {X : Type 0} (xs : List X) (i : ℕ) (x : X) → slice_get xs i ≡ Some x → drop i xs ≡ x ∷ drop (suc i) xs
@@ -200,10 +201,6 @@ extension_same e f base since fixed tokens supports goals =
 abbrev pub AreUnclaimed : Begun → List Backing → Type 0
 AreUnclaimed b ss = AllByRecursion (λ (s : Backing). list_any (λ (o : Support). nat_eq (stop b.base o.token) s.token.stop && nat_eq o.need s.need) (supports_of b.base) ≡ false) ss
 
-neither : (x y : Bool) → (x || y) ≡ false → x ≡ false
-neither true y h = absurd (false≢true (sym h))
-neither false y h = refl
-
 unclaimed_part : (m : Mission) (b : Begun) (p : Partial) (x : Part) → MayDo m b p x → AreUnclaimed b p.supports → AreUnclaimed b (do_part p x).supports
 unclaimed_part m b p (Inserted v i value) may h = h
 unclaimed_part m b p (Followed v i value) may h = h
@@ -211,7 +208,7 @@ unclaimed_part m b p (Joined v i) may h = h
 unclaimed_part m b p (Finished v) may h = h
 unclaimed_part m b p (Supported t i by) may h =
     let s : Backing = record { token = held_by p t; need = i; by = held_by p by } in
-    each_both (λ (s : Backing). list_any (λ (o : Support). nat_eq (stop b.base o.token) s.token.stop && nat_eq o.need s.need) (supports_of b.base) ≡ false) p.supports (s ∷ []) h (neither _ _ (neither _ _ may.yet), tt)
+    each_both (λ (s : Backing). list_any (λ (o : Support). nat_eq (stop b.base o.token) s.token.stop && nat_eq o.need s.need) (supports_of b.base) ≡ false) p.supports (s ∷ []) h (or_none _ _ (or_none _ _ may.yet), tt)
 unclaimed_part m b p (MetGoal g by) may h = h
 unclaimed_part m b p (Deferred t i) may h = h
 

@@ -1,18 +1,14 @@
 -- What a Db has no more of than 32 bits count.
-use Rattle.std.proofs.Common.{◌≡◌, ℕ, ℤ, zero, suc, ◌+◌, ◌-◌, ◌<◌, ◌≤◌, true, nat_eq, List, [], ◌∷◌, Option, None, Some, length, map, flat_map, slice_get, refl, sym, ap, ◌∙◌, inl, inr, length-append, length-set, arith}
-use Rattle.std.proofs.lemmas.Bool.{cases_Bool}
-use Rattle.std.proofs.lemmas.Option.{slice_get-map, slice_get_within}
+use Rattle.std.proofs.Common.{◌≡◌, ℕ, ℤ, ◌-◌, ◌<◌, ◌≤◌, true, List, [], ◌∷◌, Option, None, Some, length, map, slice_get, refl, sym, ap, ◌∙◌, length-set, arith}
+use Rattle.std.proofs.lemmas.Option.{slice_get-map}
 use Rattle.std.specs.Prelude.{IfNone, IfSome, option_map}
 use Rattle.hs_base.specs.Bounds.{goals_of, on_some}
-use Rattle.hs_base.specs.Points.{timeline_of, tokens_of}
 use Rattle.hs_base.specs.declared.mission.Goal.{Goal}
 use Rattle.hs_base.specs.declared.mission.Horizon.{Horizon}
-use Rattle.hs_base.specs.declared.mission.Kind.{Kind}
 use Rattle.hs_base.specs.declared.mission.Mission.{Mission}
 use Rattle.hs_base.specs.declared.plan.TokenRef.{TokenRef}
 use Rattle.base_laws.proofs.MissionLemmas.{horizon_is}
-use Rattle.search_tree.proofs.CellLemmas.{length-cells, length-held, length-map', row_at}
-use Rattle.search_tree.proofs.SizeLemmas.{tokens_few}
+use Rattle.search_tree.proofs.CellLemmas.{length-map', row_at}
 use Rattle.search_tree.specs.Begun.{Begun, number}
 use Rattle.search_tree.specs.Flaws.{open_needs}
 use Rattle.search_tree.specs.Outset.{MayBegin}
@@ -27,6 +23,7 @@ use Rattle.stn_trail.specs.Held.{Held as Trailed}
 use Rattle.timeline_db.proofs.FlawLemmas.{need_first, need_none}
 use Rattle.search_laws.proofs.GoodLemmas.{good_all, good_root}
 use Rattle.timeline_db.proofs.PictureLemmas.{cells-row}
+use Rattle.timeline_db.proofs.TotalLemmas.{row_few}
 use Rattle.timeline_db.specs.Databases.{IsDb, parts_of}
 use Rattle.search_laws.specs.Good.{IsGood}
 use Rattle.timeline_db.specs.Heads.{IsHead}
@@ -36,27 +33,6 @@ use Rattle.timeline_db.specs.Waiting.{IsFirstWaitingIn}
 use Rattle.timeline_db.specs.declared.board.Board.{Board}
 use Rattle.timeline_db.specs.declared.course.Step.{Step}
 use Rattle.timeline_db.specs.declared.token.Token.{Token}
-
--- a timeline has no more tokens than there are
-pub timeline_few : (ts : List Kind) (v : ℕ) → length (timeline_of ts v) ≤ length ts
-timeline_few [] v = omega arith
-timeline_few (t ∷ ts) v = elim (cases_Bool (nat_eq t.sv.0 v)) [ inl here ↦ rw here (omega (arith, timeline_few ts v)) | inr apart ↦ rw apart (omega (arith, timeline_few ts v)) ]
-
--- one element gives no more than all
-pub flat_few : {X Y : Type 0} (f : X → List Y) (xs : List X) (i : ℕ) (x : X) → slice_get xs i ≡ Some x → length (f x) ≤ length (flat_map f xs)
-flat_few f [] i x is = absurd (cc)
-flat_few f (y ∷ xs) zero x is = let same : y ≡ x = cc in let e = ap (λ z. length (f z)) same in omega (arith, length-append (f y) (flat_map f xs))
-flat_few f (y ∷ xs) (suc i) x is = omega (arith, flat_few f xs i x is, length-append (f y) (flat_map f xs))
-
--- a row of a good partial plan is short
-pub row_few : (m : Mission) (b : Begun) (p : Partial) (v : ℕ) (r : Row) → MayBegin m b → IsGood m b p → slice_get p.rows v ≡ Some r → length (cells r) ≤ 128128
-row_few m b p v r may good is =
-    let row = row_at b 0 v p.rows r good.sound.rows is in
-    let given = ap (λ (hs : List Held). length hs) row.given in
-    let left = slice_get_within m.horizons (length b.base) may.horizon may.is_horizon in
-    let most = may.checked.mission.few_horizons in
-    let new = good.few in
-    omega (arith, length-cells r, given, length-held b (0 + v) 0 (timeline_of (tokens_of b.base) (0 + v)), timeline_few (tokens_of b.base) (0 + v), tokens_few m b.base may.checked.rules, flat_few (λ (r : Row). r.added) p.rows v r is)
 
 -- parts leave the number of goals
 goals_part : (p : Partial) (x : Part) → length (do_part p x).goals ≡ length p.goals
@@ -100,11 +76,11 @@ module _ (m : Mission) (b : Begun) (tick : ℤ) (settled : ℕ) (board : Board) 
   cells_db v s is = cells-row s (line_db v s is).joined
 
   -- a timeline has a token, and not too many
-  pub size_db : (v : ℕ) (s : Shown) → slice_get board.lines.items v ≡ Some s → (0 < length s.tokens) × (length s.tokens ≤ 128128)
+  pub size_db : (v : ℕ) (s : Shown) → slice_get board.lines.items v ≡ Some s → (0 < length s.tokens) × (length s.tokens ≤ 128000)
   size_db v s is =
       let row = row_at b 0 v plan.rows (row_of s) good_db.sound.rows (row_db v s is) in
       let some = row.some in
-      let few = row_few m b plan v (row_of s) d.begins good_db (row_db v s is) in
+      let few = row_few m b plan d.begins good_db v (row_of s) (row_db v s is) in
       let same : length (cells (row_of s)) ≡ length s.tokens = ap (λ (cs : List Cell). length cs) (cells_db v s is) ∙ length-map' cell_of s.tokens in
       (omega arith, omega arith)
 

@@ -23,6 +23,8 @@ use Rattle.timeline_db.specs.Lines.{IsFirstOf, Shown, cell_of, is_gap, is_waitin
 use Rattle.timeline_db.specs.Tracked.{AreTracked, IsLine, IsTracked}
 use Rattle.timeline_db.specs.Waiting.{IsFirstWaiting, IsFirstWaitingIn}
 use Rattle.timeline_db.specs.declared.token.Token.{Token}
+use Rattle.search_tree.proofs.CellLemmas.{length-map'}
+use Rattle.plan_check.proofs.SupportLemmas.{not_false, not_true}
 
 pub head_append : {Y : Type 0} (xs ys : List Y) (y : Y) → IsHead xs y → IsHead (xs ++ ys) y
 head_append [] ys y h = let e : [] ≡ y ∷ h.rest = h.is in absurd (cc)
@@ -107,21 +109,13 @@ no_gap finished i (x ∷ cs) all =
 
 -- a row with tokens, of which the first is joined
 module _ (s : Shown) (line : IsLine s) where
-  joined_not : (b : Bool) → not b ≡ false → b ≡ true
-  joined_not true e = refl
-  joined_not false e = absurd (cc)
-
-  gap_not : (b : Bool) → not b ≡ true → b ≡ false
-  gap_not false e = refl
-  gap_not true e = absurd (cc)
-
   slots_is : (cs : List Cell) → map cell_of s.tokens ≡ cs → slots (row_of s) ≡ slots_from s.finished cs
   slots_is cs e = ap (slots_from s.finished) (cells-row s line.joined ∙ e)
 
   joined_before : (j : ℕ) (d : Cell) → slice_get (map cell_of s.tokens) j ≡ Some d → ((t : Token) → slice_get s.tokens j ≡ Some t → is_gap t ≡ false) → d.joined ≡ true
   joined_before j d at none =
       let x = slice_get-map_some cell_of s.tokens j d at in
-      ap (λ (c : Cell). c.joined) (sym x.2) ∙ joined_not (x.0).joined (none x.0 x.1)
+      ap (λ (c : Cell). c.joined) (sym x.2) ∙ not_false (x.0).joined (none x.0 x.1)
 
   -- the place before the first gap
   pub slot_at : (k : ℕ) → ((t : Token) → slice_get s.tokens 0 ≡ Some t → t.joined ≡ true) → IsFirstOf is_gap s.tokens (Some k) → (0 < k) × IsHead (slots (row_of s)) (k - 1)
@@ -132,7 +126,7 @@ module _ (s : Shown) (line : IsLine s) where
       by (t ∷ ts) e zero first h =
           let t' = (h.0).0 in
           let joined = first t' (h.0).1 in
-          let gap = gap_not t'.joined (h.0).2 in
+          let gap = not_true t'.joined (h.0).2 in
           let f : true ≡ false = sym joined ∙ gap in
           absurd (cc)
       by (t ∷ ts) e (suc k) first h =
@@ -143,7 +137,7 @@ module _ (s : Shown) (line : IsLine s) where
             omega arith,
             subst (λ (l : List ℕ). IsHead l (suc k - 1)) (sym (slots_is (map cell_of (t ∷ ts)) (ap (map cell_of) e)))
                 (subst (λ (n : ℕ). IsHead (slots_after s.finished 0 (map cell_of ts)) n) (sym less)
-                (head_gap s.finished 0 (map cell_of ts) k (cell_of t') cell (gap_not t'.joined (h.0).2)
+                (head_gap s.finished 0 (map cell_of ts) k (cell_of t') cell (not_true t'.joined (h.0).2)
                 (λ j d l at. joined_before (suc j) d (ap (λ (q : List Token). slice_get (map cell_of q) (suc j)) e ∙ at) (λ u here. h.1 (suc j) u (omega arith) here)))),
           )
 
@@ -154,14 +148,10 @@ module _ (s : Shown) (line : IsLine s) where
       by : (ts : List Token) → s.tokens ≡ ts → 0 < length s.tokens → slots (row_of s) ≡ cond s.finished [] ((length s.tokens - 1) ∷ [])
       by [] e some = absurd (omega (arith, ap (λ (l : List Token). length l) e))
       by (t ∷ ts) e some =
-          let size : 0 + length (map cell_of ts) ≡ length s.tokens - 1 = omega (arith, ap (λ (l : List Token). length l) e, length-cells ts) in
+          let size : 0 + length (map cell_of ts) ≡ length s.tokens - 1 = omega (arith, ap (λ (l : List Token). length l) e, length-map' cell_of ts) in
           slots_is (map cell_of (t ∷ ts)) (ap (map cell_of) e)
           ∙ no_gap s.finished 0 (map cell_of ts) (λ j d at. joined_before (suc j) d (ap (λ (q : List Token). slice_get (map cell_of q) (suc j)) e ∙ at) (λ u here. h (suc j) u here))
           ∙ ap (λ (n : ℕ). cond s.finished [] (n ∷ [])) size
-        where
-          length-cells : (ts : List Token) → length (map cell_of ts) ≡ length ts
-          length-cells [] = refl
-          length-cells (t ∷ ts) = ap suc (length-cells ts)
 
 -- the flaws of slots, by row
 abbrev pub slot_flaws : ℕ → Row → List Flaw

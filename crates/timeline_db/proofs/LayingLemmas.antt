@@ -13,6 +13,12 @@ use Rattle.token_net.proofs.GrowthLemmas.{length-names_in, names_in, tokens_in}
 use Rattle.timeline_db.specs.Laying.{AreLaid, AreLaidOf, laid_from, laid_line, start_among}
 use Rattle.timeline_db.specs.Lines.{PushesGiven, Shown, end_of}
 use Rattle.timeline_db.specs.declared.token.Token.{Token}
+use Rattle.search_laws.proofs.LawfulLemmas.{set_there}
+
+pub set_here : {X : Type 0} (xs : List X) (k : ℕ) (x : X) → k < length xs → slice_get (set xs k x) k ≡ Some x
+set_here [] k x l = absurd (omega arith)
+set_here (y ∷ xs) zero x l = refl
+set_here (y ∷ xs) (suc k) x l = set_here xs k x (omega arith)
 
 pub at_replicate : {X : Type 0} (n : ℕ) (x y : X) (i : ℕ) → slice_get (replicate n x) i ≡ Some y → y ≡ x
 at_replicate zero x y i is = absurd (cc)
@@ -154,19 +160,6 @@ module _ (vars : ℕ) (tokens : List Kind) (names : List Point) (lines : List Sh
       | inr apart ↦ other v s apart (h.each v s (sym (set_there lines t.sv.0 v new apart) ∙ is))
     ];
   }
-    where
-      set_here : {X : Type 0} (xs : List X) (k : ℕ) (x : X) → k < length xs → slice_get (set xs k x) k ≡ Some x
-      set_here [] k x l = absurd (omega arith)
-      set_here (y ∷ xs) zero x l = refl
-      set_here (y ∷ xs) (suc k) x l = set_here xs k x (omega arith)
-
-      set_there : {X : Type 0} (xs : List X) (k i : ℕ) (x : X) → (k ≡ i → ⊥) → slice_get (set xs k x) i ≡ slice_get xs i
-      set_there [] zero i x apart = refl
-      set_there [] (suc k) i x apart = refl
-      set_there (y ∷ xs) zero zero x apart = absurd (apart refl)
-      set_there (y ∷ xs) zero (suc i) x apart = refl
-      set_there (y ∷ xs) (suc k) zero x apart = refl
-      set_there (y ∷ xs) (suc k) (suc i) x apart = set_there xs k i x (λ e. apart (ap suc e))
 
 -- the tokens of an extension, one after another
 named_in : (before : List Extension) (new : List Kind) → AreNamed (tokens_in before new) (length before + 1) (names_in before new)

@@ -7,7 +7,7 @@ use Rattle.hs_base.specs.Bounds.{apart, bounds_of, exactly, fixed_bounds, horizo
 use Rattle.hs_base.specs.Checked.{KeepsFixedAt, KeepsRules, fixed_of}
 use Rattle.hs_base.specs.Points.{count, tokens_of}
 use Rattle.hs_base.specs.Ranges.{InRange, whole}
-use Rattle.hs_base.specs.Schedule.{bound, numbers_from}
+use Rattle.hs_base.specs.Schedule.{Meets, Schedule, bound, numbers_from}
 use Rattle.hs_base.specs.Walks.{EachAfter}
 use Rattle.hs_base.specs.declared.mission.Horizon.{Horizon}
 use Rattle.hs_base.specs.declared.mission.Mission.{Mission}
@@ -23,7 +23,7 @@ use Rattle.plan_check.specs.Planned.{Planned}
 use Rattle.plan_laws.specs.Fit.{IsFit}
 use Rattle.search_tree.proofs.CellLemmas.{stub_count}
 use Rattle.search_tree.proofs.RangeLemmas.{root_fit}
-use Rattle.search_tree.proofs.RootLemmas.{newest_is, root_meets, root_schedule}
+use Rattle.search_tree.proofs.RootLemmas.{newest_is, root_keeps, root_meets, root_schedule}
 use Rattle.search_tree.proofs.SizeLemmas.{few_at_root}
 use Rattle.search_tree.specs.Begun.{Begun, newest, number, stub}
 use Rattle.search_tree.specs.Outset.{MayBegin}
@@ -34,7 +34,6 @@ use Rattle.search_tree.specs.declared.held.Cell.{Cell}
 use Rattle.stn_distance.specs.Ranges.{IsInRange}
 use Rattle.stn_trail.specs.Held.{Held as Trailed}
 use Rattle.stn_trail.specs.declared.part.Part.TheVariants.{Added}
-use Rattle.timeline_db.proofs.ClaimLemmas.{any_append}
 use Rattle.timeline_db.proofs.TimeLemmas.{tick_is, tick_whole}
 use Rattle.timeline_db.specs.Boards.{pictured}
 use Rattle.timeline_db.specs.Databases.{IsCounted, IsDb, parts_of}
@@ -45,6 +44,9 @@ use Rattle.timeline_db.specs.Opening.{line_bounds}
 use Rattle.timeline_db.specs.declared.board.Board.{Board}
 use Rattle.timeline_db.specs.declared.course.Step.{Step}
 use Rattle.token_net.specs.Rows.{since_rows}
+use Rattle.plan_check.proofs.SupportLemmas.{any-append}
+use Rattle.hs_base.specs.Missions.{IsHorizon, IsMission}
+use Rattle.plan_check.proofs.WithinLemmas.{none_checked}
 
 -- entries that rise are no more than the number that they stay below
 rising_few : (es : List Extension) (e : Extension) (ts : List Time) → EachAfter (KeepsFixedAt es e) [] ts → (n : ℕ) → AllByRecursion (λ (t : Time). t.point.0 < n) ts → length ts ≤ n
@@ -90,7 +92,7 @@ module _ (m : Mission) (few : length m.horizons ≤ 1000) where
 -- one more extension fixes its points too
 pub flags_more : (es : List Extension) (e : Extension) (flags : List Bool) → ((x : ℕ) → get_or flags x false ≡ (is_fixed es x || list_any (λ (t : Time). nat_eq t.point.0 x) e.fixed)) → AreFlags (es ++ e ∷ []) flags
 flags_more es e flags h = λ x.
-    h x ∙ sym (any_append (λ (e : Extension). list_any (λ (t : Time). nat_eq t.point.0 x) e.fixed) es (e ∷ []) ∙ ap (λ (c : Bool). is_fixed es x || c) (or_false (list_any (λ (t : Time). nat_eq t.point.0 x) e.fixed)))
+    h x ∙ sym (any-append (λ (e : Extension). list_any (λ (t : Time). nat_eq t.point.0 x) e.fixed) es (e ∷ []) ∙ ap (λ (c : Bool). is_fixed es x || c) (or_false (list_any (λ (t : Time). nat_eq t.point.0 x) e.fixed)))
   where
     or_false : (c : Bool) → (c || false) ≡ c
     or_false true = refl
@@ -157,6 +159,10 @@ module _ (m : Mission) (b : Begun) (may : MayBegin m b) where
   pub root_range : (points : ℕ) (made : List Bound) → points ≡ (begin m b).points → made ≡ root_bounds m b (begin m b) → All (IsInRange points) made
   root_range points made size is = subst (λ (l : List Bound). All (IsInRange points) l) (sym is) (subst (λ (n : ℕ). All (IsInRange n) (root_bounds m b (begin m b))) (sym size) (λ k d l. in_range (begin m b).points (root_bounds m b (begin m b)) k d (root_fit m b may) l))
 
+  -- they have a schedule
+  pub root_kept : (made : List Bound) → made ≡ root_bounds m b (begin m b) → (t : Schedule) × Meets made t
+  root_kept made is = (root_schedule m b may, subst (λ (l : List Bound). Meets l (root_schedule m b may)) (sym is) (root_keeps m b (root_schedule m b may) (root_meets m b may)))
+
   pub root_few : (points : ℕ) → points ≡ (begin m b).points → (1 ≤ points) × (points ≤ 131072)
   root_few points size = (omega (arith, size, stub_count b, at_least b.base), omega (arith, size, few_at_root m b may))
     where
@@ -205,3 +211,25 @@ fixed_times es e ts h = each_from (KeepsFixedAt es e) (λ (t : Time). pos 0 ≤�
 -- so does the tick of a horizon
 pub tick_fits : (m : Mission) (b : Begun) → MayBegin m b → (z : ℤ) → z ≡ tick_of m b → to_z w64 (of_z w64 z) ≡ z
 tick_fits m b may z is = let h = tick_whole m b may in to_z-of_z w64 z (omega (arith, ints, is, h.0, h.1))
+
+begins_with : (m : Mission) → IsMission m → (hs : List Horizon) → m.horizons ≡ hs → 0 < length hs → AllByRecursion (IsHorizon m.vars) hs → MayBegin m (record { base = []; since = pos 0; fixed = [] })
+begins_with m h [] is some each = absurd (omega (arith, some))
+begins_with m h (x ∷ hs) is some each = record {
+  checked = none_checked m h;
+  schedule = λ y. pos 0;
+  ongoing = record { meets = record { origin = refl; each = tt }; agrees = tt; later = λ y above below free. absurd (omega (arith, above, below)) };
+  fixed = record { each = tt; since = (omega (arith, ints), omega (arith, ints)) };
+  horizon = x;
+  is_horizon = ap (λ (l : List Horizon). slice_get l 0) is;
+  in_time = omega (arith, ints, each.0.tick.0);
+  at_first = λ e. refl;
+}
+
+-- a search may begin with any mission to which nothing has happened yet
+pub begins_anywhere : (m : Mission) → IsMission m → MayBegin m (record { base = []; since = pos 0; fixed = [] })
+begins_anywhere m h = begins_with m h m.horizons refl h.some_horizons h.horizons
+
+pub begins_alike : (m : Mission) (b : Begun) → IsMission m → b.base ≡ [] → b.since ≡ pos 0 → b.fixed ≡ [] → MayBegin m b
+begins_alike m b h base since fixed =
+    subst (λ (l : List Extension). MayBegin m (record { base = l; since = b.since; fixed = b.fixed })) (sym base)
+    (subst (λ (z : ℤ). MayBegin m (record { base = []; since = z; fixed = b.fixed })) (sym since) (subst (λ (l : List Time). MayBegin m (record { base = []; since = pos 0; fixed = l })) (sym fixed) (begins_anywhere m h)))

@@ -1,6 +1,6 @@
 -- The timelines with which a search begins, and what is noted of their tokens.
 use Rattle.std.proofs.Common.{◌≡◌, ℕ, ℤ, zero, suc, ◌+◌, ◌-◌, ◌<◌, Bool, true, false, nat_eq, List, [], ◌∷◌, Option, None, Some, length, take, drop, map, set, get_or, slice_get, refl, sym, ap, ◌∙◌, subst, inl, inr, ◌⊎◌, length-set, get_or-set_same, arith}
-use Rattle.std.proofs.lemmas.Bool.{cases_Bool, cases_eq, cases_lt, eq-eqb, eqb-true}
+use Rattle.std.proofs.lemmas.Bool.{cases_eq, cases_lt, eq-eqb}
 use Rattle.std.proofs.lemmas.List.{drop-map, take-map}
 use Rattle.std.proofs.lemmas.Option.{get_or_from_slice_get, slice_get-get_or, slice_get_within}
 use Rattle.std.specs.List.{AllByRecursion, list_any}
@@ -17,22 +17,21 @@ use Rattle.hs_base.specs.declared.mission.Var.{Var}
 use Rattle.hs_base.specs.declared.plan.Extension.{Extension}
 use Rattle.hs_base.specs.declared.plan.Support.{Support}
 use Rattle.hs_base.specs.declared.plan.Time.{Time}
-use Rattle.base_laws.proofs.ListLemmas.{each_weaker}
 use Rattle.plan_check.proofs.WithinLemmas.{all_needs}
 use Rattle.plan_laws.proofs.ChainLemmas.{contained_at}
-use Rattle.plan_laws.proofs.NeedLemmas.{ServedAt, all_served, need_found}
-use Rattle.search_tree.proofs.NameLemmas.{ending_same, named_at}
 use Rattle.search_tree.specs.Begun.{Begun}
 use Rattle.search_tree.specs.Flaws.{is_served}
 use Rattle.search_tree.specs.Partial.{Row, at, begin, first_cells, first_row, held_from}
 use Rattle.search_tree.specs.declared.held.Cell.{Cell}
 use Rattle.search_tree.specs.declared.held.Held.{Held}
-use Rattle.timeline_db.proofs.LayingLemmas.{laid, laid_at, length-laid}
-use Rattle.timeline_db.specs.Claims.{is_claim}
+use Rattle.timeline_db.proofs.LayingLemmas.{laid, laid_at, length-laid, set_here}
 use Rattle.timeline_db.specs.Laying.{AreFirst, AreLaidOf, AreOutset, IsFirstUnclaimed, NotesAll, NotesLast, first_token, laid_from, laid_line, start_among}
-use Rattle.timeline_db.specs.Lines.{Shown, cell_of, nothing_held, row_of, with_needs, with_unmet}
+use Rattle.timeline_db.specs.Lines.{Shown, cell_of, nothing_held, row_of, with_needs}
 use Rattle.timeline_db.specs.Tracked.{IsLine, IsTracked}
 use Rattle.timeline_db.specs.declared.token.Token.{Token}
+use Rattle.timeline_db.proofs.PictureLemmas.{row-unmet}
+use Rattle.search_laws.proofs.LawfulLemmas.{set_there}
+use Rattle.timeline_db.proofs.ClaimLemmas.{claims_same}
 
 -- rows by variable
 pub rows_by : (lines : List Shown) (w n : ℕ) (f : ℕ → Row) → length lines ≡ n → ((i : ℕ) (s : Shown) → slice_get lines i ≡ Some s → row_of s ≡ f (w + i)) → map row_of lines ≡ map f (numbers_from w n)
@@ -61,11 +60,6 @@ row_like s ts held cell =
 row_needs : (s : Shown) (i n : ℕ) → row_of (with_needs i n s) ≡ row_of s
 row_needs s i n =
     let t : Token = record (get_or s.tokens i nothing_held) { needs = n } in
-    row_like s (set s.tokens i t) (still (λ (t : Token). t.held) s.tokens i t nothing_held refl) (still cell_of s.tokens i t nothing_held refl)
-
-row_unmet : (s : Shown) (i n : ℕ) → row_of (with_unmet i n s) ≡ row_of s
-row_unmet s i n =
-    let t : Token = record (get_or s.tokens i nothing_held) { unmet = n } in
     row_like s (set s.tokens i t) (still (λ (t : Token). t.held) s.tokens i t nothing_held refl) (still cell_of s.tokens i t nothing_held refl)
 
 joined_set : (xs : List Token) (g k : ℕ) (x : Token) → x.joined ≡ true → AllByRecursion (λ (t : Token). t.joined ≡ true) (take g xs) → AllByRecursion (λ (t : Token). t.joined ≡ true) (take g (set xs k x))
@@ -117,19 +111,6 @@ row_laid b v =
     ap (λ (l : List Token). let r : Row = record { given = map (λ (t : Token). t.held) l; added = map cell_of (drop (length ks) ts); finished = false } in r) (take_whole ts (length ks) size)
     ∙ ap (λ (l : List Token). let r : Row = record { given = map (λ (t : Token). t.held) ts; added = map cell_of l; finished = false } in r) (drop_whole ts (length ks) size)
     ∙ ap (λ (l : List Held). let r : Row = record { given = l; added = []; finished = false } in r) (held_laid b v 0 ks)
-
-pub set_here : {X : Type 0} (xs : List X) (k : ℕ) (x : X) → k < length xs → slice_get (set xs k x) k ≡ Some x
-set_here [] k x l = absurd (omega arith)
-set_here (y ∷ xs) zero x l = refl
-set_here (y ∷ xs) (suc k) x l = set_here xs k x (omega arith)
-
-pub set_there : {X : Type 0} (xs : List X) (k i : ℕ) (x : X) → (k ≡ i → ⊥) → slice_get (set xs k x) i ≡ slice_get xs i
-set_there [] zero i x apart = refl
-set_there [] (suc k) i x apart = refl
-set_there (y ∷ xs) zero zero x apart = absurd (apart refl)
-set_there (y ∷ xs) zero (suc i) x apart = refl
-set_there (y ∷ xs) (suc k) zero x apart = refl
-set_there (y ∷ xs) (suc k) (suc i) x apart = set_there xs k i x (λ e. apart (ap suc e))
 
 -- a line whose needs are noted
 module _ (m : Mission) (es : List Extension) (v : ℕ) (r : Shown) (notes : NotesLast m es v (laid_line (tokens_of es) (points_of es) v) r) where
@@ -219,7 +200,7 @@ module _ (m : Mission) (es : List Extension) (v : ℕ) (r : Shown) (notes : Note
           let t_at : slice_get s.tokens (length ks - 1) ≡ Some (here k last) = ap (slice_get s.tokens) before ∙ at_laid last k (slice_get-get_or ks last no_kind (omega arith)) in
           let g = notes.last (here k last) (omega arith) t_at in
           let c = length (needs_of m k) in
-          ap row_of g.2 ∙ row_unmet (with_needs (length ks - 1) c s) (length ks - 1) g.0 ∙ row_needs s (length ks - 1) c
+          ap row_of g.2 ∙ row-unmet (with_needs (length ks - 1) c s) (length ks - 1) g.0 ∙ row_needs s (length ks - 1) c
 
   pub line_noted : IsLine r
   line_noted = by (length ks) refl
@@ -244,10 +225,6 @@ module _ (m : Mission) (es : List Extension) (v : ℕ) (r : Shown) (notes : Note
             joined = joined_set xs (length ks) (length ks - 1) y y_joined (joined_set s.tokens (length ks) (length ks - 1) x x_joined l.joined);
           })
 
-any_same : {X : Type 0} (f g : X → Bool) (xs : List X) → AllByRecursion (λ x. f x ≡ g x) xs → list_any f xs ≡ list_any g xs
-any_same f g [] h = refl
-any_same f g (x ∷ xs) h = ap (λ (c : Bool). c || list_any f xs) h.0 ∙ ap (λ (c : Bool). g x || c) (any_same f g xs h.1)
-
 any_at : {X : Type 0} (f : X → Bool) (xs : List X) (i : ℕ) (x : X) → slice_get xs i ≡ Some x → f x ≡ true → list_any f xs ≡ true
 any_at f [] i x is e = absurd (cc)
 any_at f (y ∷ xs) zero x is e = let same : y ≡ x = cc in ap (λ (z : _). f z || list_any f xs) same ∙ ap (λ (c : Bool). c || list_any f xs) e
@@ -269,34 +246,6 @@ module _ (m : Mission) (b : Begun) (checked : Checked m b.base) where
       by : (c : Bool) → (c || false || false) ≡ c
       by true = refl
       by false = refl
-
-  supports_there : AllByRecursion (λ (s : Support). s.token.place < length (timeline_of (tokens_of b.base) s.token.sv.0)) (supports_of b.base)
-  supports_there = each_weaker (ServedAt m checked.schedule b.base) (λ (s : Support). s.token.place < length (timeline_of (tokens_of b.base) s.token.sv.0)) (λ s h. let f = need_found m b.base s.token s.need h.need h.has_need in slice_get_within (timeline_of (tokens_of b.base) s.token.sv.0) s.token.place f.0 f.1) (supports_of b.base) (all_served m checked.schedule b.base checked.rules checked.meets).each
-
-  -- ends are equal exactly where the names are
-  same_stop : (w k v i : ℕ) → k < length (timeline_of (tokens_of b.base) w) → i < length (timeline_of (tokens_of b.base) v) → nat_eq (place_of (ending w k) (points_of b.base)) (place_of (ending v i) (points_of b.base)) ≡ (nat_eq w v && nat_eq k i)
-  same_stop w k v i here there = elim (cases_Bool (nat_eq (place_of (ending w k) (points_of b.base)) (place_of (ending v i) (points_of b.base)))) [
-    | inl same ↦
-        let e = eqb-true _ _ same in
-        let names : Some (ending w k) ≡ Some (ending v i) = sym (named_at b.base w k here) ∙ ap (slice_get (points_of b.base)) e ∙ named_at b.base v i there in
-        let parts = ending_same w k v i names in
-        same ∙ sym (ap (λ (c : Bool). c && nat_eq k i) (eq-eqb w v parts.0) ∙ eq-eqb k i parts.1)
-    | inr differ ↦ differ ∙ sym (not_both (cases_Bool (nat_eq w v)) (cases_Bool (nat_eq k i)) differ)
-  ]
-    where
-      not_both : (nat_eq w v ≡ true) ⊎ (nat_eq w v ≡ false) → (nat_eq k i ≡ true) ⊎ (nat_eq k i ≡ false) → nat_eq (place_of (ending w k) (points_of b.base)) (place_of (ending v i) (points_of b.base)) ≡ false → (nat_eq w v && nat_eq k i) ≡ false
-      not_both (inr other) _ differ = ap (λ (c : Bool). c && nat_eq k i) other
-      not_both (inl same) (inr other) differ = ap (λ (c : Bool). c && nat_eq k i) same ∙ other
-      not_both (inl same) (inl this) differ =
-          let e = eqb-true w v same in
-          let f = eqb-true k i this in
-          let equal : place_of (ending w k) (points_of b.base) ≡ place_of (ending v i) (points_of b.base) = ap (λ (n : ℕ). place_of (ending n k) (points_of b.base)) e ∙ ap (λ (n : ℕ). place_of (ending v n) (points_of b.base)) f in
-          let g : true ≡ false = sym (eq-eqb _ _ equal) ∙ differ in
-          absurd (cc)
-
-  pub claim_is : (v i j : ℕ) → i < length (timeline_of (tokens_of b.base) v) → base_serves (place_of (ending v i) (points_of b.base)) j ≡ list_any (is_claim (at v i) j) (supports_of b.base)
-  claim_is v i j there = any_same (λ (s : Support). nat_eq (stop b.base s.token) (place_of (ending v i) (points_of b.base)) && nat_eq s.need j) (is_claim (at v i) j) (supports_of b.base)
-      (each_weaker (λ (s : Support). s.token.place < length (timeline_of (tokens_of b.base) s.token.sv.0)) (λ (s : Support). (nat_eq (stop b.base s.token) (place_of (ending v i) (points_of b.base)) && nat_eq s.need j) ≡ is_claim (at v i) j s) (λ s here. ap (λ (c : Bool). c && nat_eq s.need j) (same_stop s.token.sv.0 s.token.place v i here there)) (supports_of b.base) supports_there)
 
   -- the needs of a token that isn't the last of its timeline are served
   pub needs_served : (v i j : ℕ) (k : Kind) → slice_get (timeline_of (tokens_of b.base) v) i ≡ Some k → suc i < length (timeline_of (tokens_of b.base) v) → j < length (needs_of m k) → base_serves (place_of (ending v i) (points_of b.base)) j ≡ true
@@ -342,8 +291,8 @@ module _ (m : Mission) (b : Begun) (checked : Checked m b.base) where
           record {
             most = most;
             needs = λ l. refl;
-            served = λ j l. served_first (here k).held j ∙ claim_is v i j there ∙ first.claimed j l;
-            unserved = λ l. served_first (here k).held n ∙ claim_is v i n there ∙ first.unclaimed l;
+            served = λ j l. served_first (here k).held j ∙ sym (claims_same m b.base checked (at v i) (place_of (ending v i) (points_of b.base)) j there refl) ∙ first.claimed j l;
+            unserved = λ l. served_first (here k).held n ∙ sym (claims_same m b.base checked (at v i) (place_of (ending v i) (points_of b.base)) n there refl) ∙ first.unclaimed l;
             all = λ e j l. absurd (omega arith);
           }
 

@@ -1,8 +1,8 @@
 -- The code finds by its name what the plan that is extended serves of a token.
-use Rattle.std.proofs.Common.{◌≡◌, ℕ, ◌+◌, ◌<◌, ◌≤◌, Bool, true, false, List, [], ◌∷◌, Some, length, length-append, map, get_or, slice_get, nat_eq, nat_lt, refl, sym, ap, ◌∙◌, subst, inl, inr, arith}
-use Rattle.std.proofs.lemmas.Bool.{and_from, and_parts, cases_lt, eq-eqb, eqb-true, le-ltb, lt-ltb}
+use Rattle.std.proofs.Common.{◌≡◌, ℕ, ◌+◌, ◌<◌, ◌≤◌, Bool, true, false, List, Some, length, length-append, map, get_or, slice_get, nat_eq, nat_lt, refl, sym, ap, ◌∙◌, subst, inl, inr, arith}
+use Rattle.std.proofs.lemmas.Bool.{cases_lt, le-ltb, lt-ltb}
 use Rattle.std.proofs.lemmas.Option.{get_or_from_slice_get, slice_get-get_or, slice_get_within}
-use Rattle.std.specs.List.{AllByRecursion, list_any}
+use Rattle.std.specs.List.{list_any}
 use Rattle.std.specs.Prelude.{◌&&◌, ◌||◌}
 use Rattle.hs_base.specs.Checked.{Checked, supports_of}
 use Rattle.hs_base.specs.Points.{ending, place_of, points_of, stop, timeline_of, token_at, tokens_of}
@@ -15,9 +15,7 @@ use Rattle.base_laws.proofs.ListLemmas.{each_at, each_weaker, slice_get-append_l
 use Rattle.base_laws.proofs.MissionLemmas.{each_filter}
 use Rattle.base_laws.proofs.PointLemmas.{of_variable}
 use Rattle.plan_check.proofs.WithinLemmas.{all_below}
-use Rattle.plan_laws.proofs.NeedLemmas.{ServedAt, all_served, need_found}
 use Rattle.search_tree.proofs.CellLemmas.{held_from_at, held_is, length-held, length-map', row_at, slice_get-map_some}
-use Rattle.search_tree.proofs.NameLemmas.{ending_same, named_at}
 use Rattle.search_tree.proofs.SoundLemmas.{cell_variable}
 use Rattle.search_tree.specs.Begun.{Begun}
 use Rattle.search_tree.specs.Flaws.{is_served}
@@ -41,23 +39,7 @@ use Rattle.timeline_db.specs.Lines.{Shown, cell_of, nothing_held, row_of}
 use Rattle.timeline_db.specs.Serving.{is_served_at}
 use Rattle.timeline_db.specs.Tracked.{IsLine, was_served}
 use Rattle.timeline_db.specs.declared.board.Board.{Board}
-
-any_same : {X : Type 0} (f g : X → Bool) (xs : List X) → AllByRecursion (λ x. f x ≡ g x) xs → list_any f xs ≡ list_any g xs
-any_same f g [] h = refl
-any_same f g (x ∷ xs) h = ap (λ (c : Bool). c || list_any f xs) h.0 ∙ ap (λ (c : Bool). g x || c) (any_same f g xs h.1)
-
-same_truth : (a c : Bool) → (a ≡ true → c ≡ true) → (c ≡ true → a ≡ true) → a ≡ c
-same_truth true c f g = sym (f refl)
-same_truth false true f g = g refl
-same_truth false false f g = refl
-
--- the support's token is one of the plan
-pub record IsNamed (es : List Extension) (s : Support) : Type 0 where
-  pub kind : Kind
-  pub is : token_at es s.token ≡ Some kind
-
-pub supports_named : (m : Mission) (es : List Extension) → Checked m es → AllByRecursion (IsNamed es) (supports_of es)
-supports_named m es c = each_weaker (ServedAt m c.schedule es) (IsNamed es) (λ s h. let f = need_found m es s.token s.need h.need h.has_need in record { kind = f.0; is = f.1 }) (supports_of es) (all_served m c.schedule es c.rules c.meets).each
+use Rattle.timeline_db.proofs.ClaimLemmas.{IsNamed, claims_same, supports_named}
 
 -- a token of a checked plan is of a variable of the mission
 pub variable_there : (m : Mission) (es : List Extension) (t : TokenRef) (k : Kind) → Checked m es → token_at es t ≡ Some k → t.sv.0 < length m.vars
@@ -65,26 +47,6 @@ variable_there m es t k c is =
     let below = each_at (λ (k : Kind). k.sv.0 < length m.vars) (timeline_of (tokens_of es) t.sv.0) t.place k (each_filter (λ (k : Kind). k.sv.0 < length m.vars) (λ (k : Kind). nat_eq k.sv.0 t.sv.0) (tokens_of es) (all_below m c.mission es c.rules)) is in
     let own = of_variable (tokens_of es) t.sv.0 t.place k is in
     omega arith
-
--- tokens of a plan have ends of their own
-same_name : (es : List Extension) (t u : TokenRef) → t.place < length (timeline_of (tokens_of es) t.sv.0) → u.place < length (timeline_of (tokens_of es) u.sv.0) → stop es t ≡ stop es u → (t.sv.0 ≡ u.sv.0) × (t.place ≡ u.place)
-same_name es t u there here e = ending_same t.sv.0 t.place u.sv.0 u.place (sym (named_at es t.sv.0 t.place there) ∙ ap (slice_get (points_of es)) e ∙ named_at es u.sv.0 u.place here)
-
--- a support of a token of the plan, by its name or by its end
-claim_same : (es : List Extension) (t : TokenRef) (x j : ℕ) (s : Support) → t.place < length (timeline_of (tokens_of es) t.sv.0) → x ≡ stop es t → IsNamed es s → is_claim t j s ≡ (nat_eq (stop es s.token) x && nat_eq s.need j)
-claim_same es t x j s there ends named = ap (λ (c : Bool). c && nat_eq s.need j) (same_truth (nat_eq s.token.sv.0 t.sv.0 && nat_eq s.token.place t.place) (nat_eq (stop es s.token) x) to from)
-  where
-    to : (nat_eq s.token.sv.0 t.sv.0 && nat_eq s.token.place t.place) ≡ true → nat_eq (stop es s.token) x ≡ true
-    to e =
-        let f = and_parts (nat_eq s.token.sv.0 t.sv.0) (nat_eq s.token.place t.place) e in
-        let v = eqb-true s.token.sv.0 t.sv.0 f.0 in
-        let i = eqb-true s.token.place t.place f.1 in
-        eq-eqb (stop es s.token) x (ap (λ (n : ℕ). place_of (ending n s.token.place) (points_of es)) v ∙ ap (λ (n : ℕ). place_of (ending t.sv.0 n) (points_of es)) i ∙ sym ends)
-
-    from : nat_eq (stop es s.token) x ≡ true → (nat_eq s.token.sv.0 t.sv.0 && nat_eq s.token.place t.place) ≡ true
-    from e =
-        let f = same_name es s.token t (slice_get_within (timeline_of (tokens_of es) s.token.sv.0) s.token.place named.kind named.is) there (eqb-true (stop es s.token) x e ∙ ends) in
-        and_from (nat_eq s.token.sv.0 t.sv.0) (nat_eq s.token.place t.place) (eq-eqb s.token.sv.0 t.sv.0 f.0) (eq-eqb s.token.place t.place f.1)
 
 or_turn : (s d g : Bool) → ((s || d) || g) ≡ ((g || s) || d)
 or_turn true true true = refl
@@ -187,8 +149,7 @@ module _ (m : Mission) (b : Begun) (may : MayBegin m b) (p : Partial) (sound : I
         let there : t.place < length (timeline_of (tokens_of b.base) t.sv.0) = let g = given_many b t.sv.0 (row_of (line_at d t.sv.0)) own_row in omega arith in
         let ends : x ≡ stop b.base t = given_stop b t.sv.0 (row_of (line_at d t.sv.0)) own_row t.place (cell_of (token_of d t)) inside cell_is in
         ap (λ (c : Bool). c && list_any (is_claim t k) (supports_of b.base)) (lt-ltb t.place (line_at d t.sv.0).given given)
-        ∙ any_same (is_claim t k) (λ (s : Support). nat_eq (stop b.base s.token) x && nat_eq s.need k) (supports_of b.base)
-        (each_weaker (IsNamed b.base) (λ (s : Support). is_claim t k s ≡ (nat_eq (stop b.base s.token) x && nat_eq s.need k)) (λ s named. claim_same b.base t x k s there ends named) (supports_of b.base) (supports_named m b.base may.checked))
+        ∙ claims_same m b.base may.checked t x k there ends
     | inr new ↦
         let x = (token_of d t).held.stop in
         ap (λ (c : Bool). c && list_any (is_claim t k) (supports_of b.base)) (le-ltb t.place (line_at d t.sv.0).given new)

@@ -82,8 +82,9 @@ still-set f [] (suc g) (suc k) x d e = refl
 still-set f (y ∷ xs) (suc g) zero x d e = refl
 still-set f (y ∷ xs) (suc g) (suc k) x d e = still-set f xs g k x d e
 
-given-length : (s : Shown) → s.given ≤ length s.tokens → length (row_of s).given ≡ s.given
-given-length s h = by s.tokens s.given h
+-- a row has as many given tokens as its line
+pub given_length : (s : Shown) → s.given ≤ length s.tokens → length (row_of s).given ≡ s.given
+given_length s h = by s.tokens s.given h
   where
     by : (ts : List Token) (g : ℕ) → g ≤ length ts → length (map (λ (t : Token). t.held) (take g ts)) ≡ g
     by ts zero h = refl
@@ -95,7 +96,7 @@ module _ (s : Shown) (within : s.given ≤ length s.tokens) (i : ℕ) (after : s
   pub row-put : (t : Token) → suc i ≤ length s.tokens → row_of (record s { tokens = insert s.tokens (suc i) t }) ≡ put i (cell_of t) (row_of s)
   row-put t h =
       let a = ap (λ (ts : List Token). map (λ (t : Token). t.held) ts) (take-insert s.tokens s.given (suc i) t after h) in
-      let b = drop-insert cell_of s.tokens s.given (suc i) t after h ∙ ap (λ n. insert (map cell_of (drop s.given s.tokens)) (suc i - n) (cell_of t)) (sym (given-length s within)) in
+      let b = drop-insert cell_of s.tokens s.given (suc i) t after h ∙ ap (λ n. insert (map cell_of (drop s.given s.tokens)) (suc i - n) (cell_of t)) (sym (given_length s within)) in
       ap (λ (g : List Held). let r : Row = record { given = g; added = map cell_of (drop s.given (insert s.tokens (suc i) t)); finished = s.finished } in r) a
       ∙ ap (λ (cs : List Cell). let r : Row = record { given = (row_of s).given; added = cs; finished = s.finished } in r) b
 
@@ -103,7 +104,7 @@ module _ (s : Shown) (within : s.given ≤ length s.tokens) (i : ℕ) (after : s
   pub row-take_out : row_of (record s { tokens = remove s.tokens (suc i) }) ≡ take_out i (row_of s)
   row-take_out =
       let a = ap (λ (ts : List Token). map (λ (t : Token). t.held) ts) (take-remove s.tokens s.given (suc i) after) in
-      let b = drop-remove cell_of s.tokens s.given (suc i) after ∙ ap (λ n. remove (map cell_of (drop s.given s.tokens)) (suc i - n)) (sym (given-length s within)) in
+      let b = drop-remove cell_of s.tokens s.given (suc i) after ∙ ap (λ n. remove (map cell_of (drop s.given s.tokens)) (suc i - n)) (sym (given_length s within)) in
       ap (λ (g : List Held). let r : Row = record { given = g; added = map cell_of (drop s.given (remove s.tokens (suc i))); finished = s.finished } in r) a
       ∙ ap (λ (cs : List Cell). let r : Row = record { given = (row_of s).given; added = cs; finished = s.finished } in r) b
 
@@ -111,7 +112,7 @@ module _ (s : Shown) (within : s.given ≤ length s.tokens) (i : ℕ) (after : s
   row-joined j =
       let t : Token = record (get_or s.tokens (suc i) nothing_held) { joined = j } in
       let a = take-set (λ (t : Token). t.held) s.tokens s.given (suc i) t nothing_held refl in
-      let b = drop-set cell_of (λ (c : Cell). record { held = c.held; joined = j }) s.tokens s.given (suc i) t nothing_held after refl ∙ ap (λ n. at_place (λ (c : Cell). record { held = c.held; joined = j }) (suc i - n) (map cell_of (drop s.given s.tokens))) (sym (given-length s within)) in
+      let b = drop-set cell_of (λ (c : Cell). record { held = c.held; joined = j }) s.tokens s.given (suc i) t nothing_held after refl ∙ ap (λ n. at_place (λ (c : Cell). record { held = c.held; joined = j }) (suc i - n) (map cell_of (drop s.given s.tokens))) (sym (given_length s within)) in
       ap (λ (g : List Held). let r : Row = record { given = g; added = map cell_of (drop s.given (set s.tokens (suc i) t)); finished = s.finished } in r) a
       ∙ ap (λ (cs : List Cell). let r : Row = record { given = (row_of s).given; added = cs; finished = s.finished } in r) b
 

@@ -14,7 +14,7 @@ use Rattle.search_tree.specs.declared.backing.Backing.{Backing}
 use Rattle.search_tree.specs.declared.backing.Deferral.{Deferral}
 use Rattle.search_tree.specs.declared.held.Held.{Held}
 use Rattle.search_tree.specs.declared.part.Part.TheVariants.{Deferred, Supported}
-use Rattle.timeline_db.proofs.ClaimLemmas.{any_append}
+use Rattle.plan_check.proofs.SupportLemmas.{any-append}
 
 or-middle : (a s d t : Bool) → ((a || (s || (t || false))) || d) ≡ (((a || s) || d) || t)
 or-middle true s d t = refl
@@ -38,7 +38,7 @@ served_supported b p t j by x k =
     let a = list_any (λ (s : Support). nat_eq (stop b.base s.token) x.stop && nat_eq s.need k) (supports_of b.base) in
     let d = list_any (λ (d : Deferral). nat_eq d.stop x.stop && nat_eq d.need k) p.deferred in
     let test : Backing → Bool = λ s. nat_eq s.token.stop x.stop && nat_eq s.need k in
-    ap (λ (q : Bool). (a || q) || d) (any_append test p.supports (s ∷ [])) ∙ or-middle a (list_any test p.supports) d (nat_eq (held_by p t).stop x.stop && nat_eq j k)
+    ap (λ (q : Bool). (a || q) || d) (any-append test p.supports (s ∷ [])) ∙ or-middle a (list_any test p.supports) d (nat_eq (held_by p t).stop x.stop && nat_eq j k)
 
 -- the same of a need that is left to a later plan
 pub served_deferred : (b : Begun) (p : Partial) (t : TokenRef) (j : ℕ) (x : Held) (k : ℕ) → is_served b (do_part p (Deferred t j)) x k ≡ (is_served b p x k || (nat_eq (held_by p t).stop x.stop && nat_eq j k))
@@ -47,4 +47,4 @@ served_deferred b p t j x k =
     let a = list_any (λ (s : Support). nat_eq (stop b.base s.token) x.stop && nat_eq s.need k) (supports_of b.base) in
     let s = list_any (λ (s : Backing). nat_eq s.token.stop x.stop && nat_eq s.need k) p.supports in
     let test : Deferral → Bool = λ d. nat_eq d.stop x.stop && nat_eq d.need k in
-    ap (λ (q : Bool). (a || s) || q) (any_append test p.deferred (e ∷ [])) ∙ or-end a s (list_any test p.deferred) (nat_eq (held_by p t).stop x.stop && nat_eq j k)
+    ap (λ (q : Bool). (a || s) || q) (any-append test p.deferred (e ∷ [])) ∙ or-end a s (list_any test p.deferred) (nat_eq (held_by p t).stop x.stop && nat_eq j k)

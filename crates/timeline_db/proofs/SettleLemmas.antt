@@ -1,5 +1,5 @@
 -- What is noted of tokens where one more need is served or left, and where it is open again.
-use Rattle.std.proofs.Common.{◌≡◌, ℕ, zero, suc, ◌+◌, ◌<◌, ◌≤◌, Bool, true, false, List, [], ◌∷◌, Some, length, map, set, take, get_or, slice_get, nat_eq, refl, sym, ap, ◌∙◌, subst, inl, inr, arith, ◌⊎◌}
+use Rattle.std.proofs.Common.{◌≡◌, ℕ, zero, suc, ◌+◌, ◌<◌, ◌≤◌, Bool, true, false, List, [], ◌∷◌, Some, length, map, set, take, get_or, slice_get, nat_eq, refl, sym, ap, ◌∙◌, subst, inl, inr, arith, ◌⊎◌, length-set}
 use Rattle.std.proofs.lemmas.Bool.{and_from, and_right, cases_eq, cases_lt, eq-eqb, ne_eqb}
 use Rattle.std.proofs.lemmas.Option.{get_or_from_slice_get, slice_get-map}
 use Rattle.std.specs.List.{AllByRecursion}
@@ -16,17 +16,13 @@ use Rattle.search_tree.specs.declared.held.Cell.{Cell}
 use Rattle.search_tree.specs.declared.held.Held.{Held}
 use Rattle.search_laws.proofs.ApartLemmas.{one_place}
 use Rattle.timeline_db.proofs.PictureLemmas.{cells-row}
-use Rattle.timeline_db.proofs.TrackLemmas.{unlike}
+use Rattle.timeline_db.proofs.TrackLemmas.{or_first, unlike}
 use Rattle.search_laws.specs.Good.{AreApart}
 use Rattle.timeline_db.specs.Lines.{Shown, cell_of, nothing_held, row_of, with_unmet}
 use Rattle.timeline_db.specs.Tracked.{AreTracked, IsLine, IsTracked, was_served}
 use Rattle.timeline_db.specs.declared.token.Token.{Token}
 
-or_left : (a c : Bool) → a ≡ true → (a || c) ≡ true
-or_left true c e = refl
-or_left false c e = absurd (cc)
-
-or_none : (a c : Bool) → (a || c) ≡ false → a ≡ false
+pub or_none : (a c : Bool) → (a || c) ≡ false → a ≡ false
 or_none true c e = absurd (cc)
 or_none false c e = refl
 
@@ -61,7 +57,7 @@ module _ (m : Mission) (b : Begun) (p q : Partial) (x j : ℕ) (one : (y : Held)
   rest_same y k other = one y k ∙ or_false (is_served b p y k) (nat_eq x y.stop && nat_eq j k) (and_right (nat_eq x y.stop) (nat_eq j k) (ne_eqb j k other))
 
   still_served : (y : Held) (k : ℕ) → is_served b p y k ≡ true → is_served b q y k ≡ true
-  still_served y k e = one y k ∙ or_left (is_served b p y k) (nat_eq x y.stop && nat_eq j k) e
+  still_served y k e = one y k ∙ or_first (is_served b p y k) (nat_eq x y.stop && nat_eq j k) e
 
   now_served : (y : Held) → x ≡ y.stop → is_served b q y j ≡ true
   now_served y ends = one y j ∙ or_true (is_served b p y j) (nat_eq x y.stop && nat_eq j j) (and_from (nat_eq x y.stop) (nat_eq j j) (eq-eqb x y.stop ends) (eq-eqb j j refl))
@@ -121,7 +117,7 @@ pub need_counted : (m : Mission) (b : Begun) (p : Partial) (t : Token) (j : ℕ)
 need_counted m b p t j h less yet = elim (cases_lt 0 t.needs) [
   | inl some ↦ let e = h.needs some in omega arith
   | inr none ↦
-      let all : is_served b p t.held j ≡ true = or_left _ _ (or_left (was_served b t.held j) _ (h.all (omega arith) j less)) in
+      let all : is_served b p t.held j ≡ true = or_first _ _ (or_first (was_served b t.held j) _ (h.all (omega arith) j less)) in
       let never : true ≡ false = sym all ∙ yet in
       absurd (cc)
 ]
@@ -133,15 +129,9 @@ joined_set [] (suc g) (suc i) n h = tt
 joined_set (t ∷ ts) (suc g) zero n h = h
 joined_set (t ∷ ts) (suc g) (suc i) n h = (h.0, joined_set ts g i n h.1)
 
-pub length_set : {X : Type 0} (xs : List X) (k : ℕ) (x : X) → length (set xs k x) ≡ length xs
-length_set [] zero x = refl
-length_set [] (suc k) x = refl
-length_set (y ∷ xs) zero x = refl
-length_set (y ∷ xs) (suc k) x = ap suc (length_set xs k x)
-
 pub line_unmet : (s : Shown) (i n : ℕ) → IsLine s → IsLine (with_unmet i n s)
 line_unmet s i n h = record {
-  within = let w = h.within in let l = length_set s.tokens i (record (get_or s.tokens i nothing_held) { unmet = n }) in omega arith;
+  within = let w = h.within in let l = length-set s.tokens i (record (get_or s.tokens i nothing_held) { unmet = n }) in omega arith;
   joined = joined_set s.tokens s.given i n h.joined;
 }
 

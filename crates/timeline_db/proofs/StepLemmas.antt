@@ -1,5 +1,5 @@
 -- A part more keeps what holds of a Db.
-use Rattle.std.proofs.Common.{◌≡◌, ℕ, ℤ, zero, suc, ◌+◌, ◌<◌, ◌≤◌, Bool, true, List, [], ◌∷◌, ◌++◌, Option, Some, length, map, insert, set, take, flat_map, get_or, slice_get, refl, sym, ap, ◌∙◌, subst, inl, inr, length-append, arith}
+use Rattle.std.proofs.Common.{◌≡◌, ℕ, ℤ, zero, suc, ◌+◌, ◌<◌, ◌≤◌, Bool, true, List, [], ◌∷◌, ◌++◌, Option, Some, length, map, insert, set, take, flat_map, get_or, slice_get, refl, sym, ap, ◌∙◌, subst, inl, inr, length-append, arith, length-set, ◌-◌}
 use Rattle.std.proofs.lemmas.Option.{get_or_from_slice_get, slice_get-get_or}
 use Rattle.std.specs.List.{AllByRecursion}
 use Rattle.hs_base.specs.Needs.{needs_of}
@@ -9,7 +9,7 @@ use Rattle.search_tree.proofs.SizeLemmas.{new_changed}
 use Rattle.search_tree.specs.Begun.{Begun}
 use Rattle.search_tree.specs.May.{HasRoom, MayDo}
 use Rattle.search_tree.specs.Partial.{Partial, Row, begin, cells, row}
-use Rattle.search_tree.specs.Parts.{at_place, do_part, do_parts, grown_by, with_rows}
+use Rattle.search_tree.specs.Parts.{at_place, do_part, do_parts, grown_by, put, with_rows}
 use Rattle.search_tree.specs.declared.backing.Backing.{Backing}
 use Rattle.search_tree.specs.declared.backing.Deferral.{Deferral}
 use Rattle.search_tree.specs.declared.held.Held.{Held}
@@ -17,7 +17,7 @@ use Rattle.search_tree.specs.declared.part.Part.{Part}
 use Rattle.stn_trail.specs.Held.{Held as Trailed}
 use Rattle.timeline_db.proofs.DbLemmas.{course_pushed, parts-push}
 use Rattle.search_laws.proofs.GoodLemmas.{allowed-push, do_parts-append}
-use Rattle.timeline_db.proofs.PictureLemmas.{rows-set, take-insert}
+use Rattle.timeline_db.proofs.PictureLemmas.{given_length, rows-set, take-insert}
 use Rattle.timeline_db.proofs.TrackLemmas.{from-insert, from-set, like_tracked, new_tracked, tracked_row}
 use Rattle.timeline_db.specs.Boards.{KeepsRest, line_at, no_line, pictured}
 use Rattle.timeline_db.specs.Courses.{Gains, parts_with}
@@ -29,6 +29,8 @@ use Rattle.timeline_db.specs.Tracked.{AreTracked, IsLine, IsTracked}
 use Rattle.timeline_db.specs.declared.board.Board.{Board}
 use Rattle.timeline_db.specs.declared.course.Step.{Step}
 use Rattle.timeline_db.specs.declared.token.Token.{Token}
+use Rattle.search_laws.proofs.LawfulLemmas.{length-insert_one}
+use Rattle.search_tree.specs.declared.held.Cell.{Cell}
 
 -- the partial plan of the parts that were done
 abbrev pub shown_of : Mission → Begun → List Step → Partial
@@ -84,11 +86,8 @@ counted_row p board board' v grown more f r is c added total new old =
       total = omega (arith, tokens_changed f more v p.rows r is (λ q. omega (arith, length-cells (f q), length-cells q, new q, ap length (old q))));
     }
 
-pub length-insert : {X : Type 0} (xs : List X) (k : ℕ) (x : X) → length (insert xs k x) ≡ suc (length xs)
-length-insert [] zero x = refl
-length-insert [] (suc k) x = refl
-length-insert (y ∷ xs) zero x = refl
-length-insert (y ∷ xs) (suc k) x = ap suc (length-insert xs k x)
+pub length-put : (i : ℕ) (c : Cell) (q : Row) → length (put i c q).added ≡ 1 + length q.added
+length-put i c q = omega (arith, length-insert_one q.added (suc i - length q.given) c)
 
 take-set_past : {X : Type 0} (xs : List X) (g k : ℕ) (x : X) → g ≤ k → take g (set xs k x) ≡ take g xs
 take-set_past xs zero k x h = refl
@@ -97,15 +96,9 @@ take-set_past [] (suc g) (suc k) x h = refl
 take-set_past (y ∷ xs) (suc g) zero x h = absurd (omega arith)
 take-set_past (y ∷ xs) (suc g) (suc k) x h = ap (λ ys. y ∷ ys) (take-set_past xs g k x (omega arith))
 
-length-set' : {X : Type 0} (xs : List X) (k : ℕ) (x : X) → length (set xs k x) ≡ length xs
-length-set' [] zero x = refl
-length-set' [] (suc k) x = refl
-length-set' (y ∷ xs) zero x = refl
-length-set' (y ∷ xs) (suc k) x = ap suc (length-set' xs k x)
-
 line_put : (s : Shown) (i : ℕ) (t : Token) → s.given ≤ suc i → suc i ≤ length s.tokens → IsLine s → IsLine (record s { tokens = insert s.tokens (suc i) t })
 line_put s i t after place h = record {
-  within = let w = h.within in let l = length-insert s.tokens (suc i) t in omega arith;
+  within = let w = h.within in let l = length-insert_one s.tokens (suc i) t in omega arith;
   joined = subst (AllByRecursion (λ (t : Token). t.joined ≡ true)) (sym (take-insert s.tokens s.given (suc i) t after place)) h.joined;
 }
 
@@ -113,7 +106,7 @@ line_joined : (s : Shown) (i : ℕ) (j : Bool) → s.given ≤ suc i → IsLine 
 line_joined s i j after h =
     let t : Token = record (get_or s.tokens (suc i) nothing_held) { joined = j } in
     record {
-      within = let w = h.within in let l = length-set' s.tokens (suc i) t in omega arith;
+      within = let w = h.within in let l = length-set s.tokens (suc i) t in omega arith;
       joined = subst (AllByRecursion (λ (t : Token). t.joined ≡ true)) (sym (take-set_past s.tokens s.given (suc i) t after)) h.joined;
     }
 
@@ -125,12 +118,7 @@ line_shown board v r is =
     (x.1 ∙ ap Some (sym e), ap row_of e ∙ x.2)
 
 pub given_shown : (s : Shown) → IsLine s → length (row_of s).given ≡ s.given
-given_shown s h = by s.tokens s.given h.within
-  where
-    by : (ts : List Token) (g : ℕ) → g ≤ length ts → length (map (λ (t : Token). t.held) (take g ts)) ≡ g
-    by ts zero h = refl
-    by [] (suc g) h = absurd (omega arith)
-    by (t ∷ ts) (suc g) h = ap suc (by ts g (omega arith))
+given_shown s h = given_length s h.within
 
 -- a new token is put in
 pub tracked_put : (m : Mission) (b : Begun) (p : Partial) (grown : ℕ) (rows : List Row) (lines : List Shown) (v i : ℕ) (s : Shown) (t : Token) → IsGood m b p → AreTracked m b p lines → slice_get lines v ≡ Some s → s.given ≤ suc i → suc i ≤ length s.tokens → p.points ≤ t.held.stop → t.unmet ≡ 0 → t.needs ≡ length (needs_of m t.held.kind)

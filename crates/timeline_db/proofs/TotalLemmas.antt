@@ -13,7 +13,8 @@ use Rattle.search_tree.specs.Partial.{Partial, Row, cells}
 use Rattle.search_tree.specs.Resolvers.{tokens}
 use Rattle.search_laws.specs.Good.{IsGood}
 
-timeline_few : (ts : List Kind) (v : ℕ) → length (timeline_of ts v) ≤ length ts
+-- a timeline has no more tokens than there are
+pub timeline_few : (ts : List Kind) (v : ℕ) → length (timeline_of ts v) ≤ length ts
 timeline_few ts v = omega (arith, length-filter (λ (k : Kind). nat_eq k.sv.0 v) ts, count_by-le-length (λ (k : Kind). nat_eq k.sv.0 v) ts)
 
 -- a row has no more new tokens than all rows

@@ -3,10 +3,10 @@ use Rattle.std.proofs.Common.{◌≡◌, ℕ, zero, suc, ◌<◌, ◌≤◌, Boo
 use Rattle.std.proofs.lemmas.Bool.{cases_lt}
 use Rattle.std.proofs.lemmas.Bool.Decides.{nat_tests}
 use Rattle.std.specs.List.{AllByRecursion, list_any}
-use Rattle.std.specs.Prelude.{◌&&◌, ◌||◌, cond}
+use Rattle.std.specs.Prelude.{◌&&◌, ◌||◌}
 use Rattle.hs_base.specs.Checked.{supports_of}
 use Rattle.hs_base.specs.Needs.{needs_of}
-use Rattle.hs_base.specs.Points.{Point, ending, place_of, points_of, same_point, stop}
+use Rattle.hs_base.specs.Points.{ending, points_of, stop}
 use Rattle.hs_base.specs.declared.mission.Mission.{Mission}
 use Rattle.hs_base.specs.declared.plan.Support.{Support}
 use Rattle.base_laws.proofs.ListLemmas.{each_weaker}
@@ -21,6 +21,7 @@ use Rattle.search_laws.specs.Good.{IsGood}
 use Rattle.timeline_db.specs.Lines.{Shown}
 use Rattle.timeline_db.specs.Tracked.{AreTracked, IsLine, IsTracked, was_served}
 use Rattle.timeline_db.specs.declared.token.Token.{Token}
+use Rattle.base_laws.proofs.PointLemmas.{place_at_most}
 
 -- where an element of a changed list comes from
 pub from-insert : {X : Type 0} (xs : List X) (k : ℕ) (x y : X) (i : ℕ) → slice_get (insert xs k x) i ≡ Some y → (y ≡ x) ⊎ ((j : ℕ) × (slice_get xs j ≡ Some y))
@@ -67,7 +68,7 @@ like_tracked m b p u t e h =
       all = λ d j l. subst (λ (x : Held). was_served b x j ≡ true) (sym e.held) (h.all (omega arith) j (subst (λ (x : Held). j < length (needs_of m x.kind)) e.held l));
     }
 
-or_first : (a c : Bool) → a ≡ true → (a || c) ≡ true
+pub or_first : (a c : Bool) → a ≡ true → (a || c) ≡ true
 or_first true c e = refl
 or_first false c e = absurd (cc)
 
@@ -87,14 +88,6 @@ none_any test (x ∷ xs) h = by (test x) h.0 (none_any test xs h.1)
     by true e f = e
     by false e f = f
 
-place_most : (p : Point) (qs : List Point) → place_of p qs ≤ length qs
-place_most p [] = omega arith
-place_most p (q ∷ qs) = by (same_point p q) (place_most p qs)
-  where
-    by : (b : Bool) → place_of p qs ≤ length qs → cond b 0 (suc (place_of p qs)) ≤ suc (length qs)
-    by true h = omega arith
-    by false h = omega arith
-
 -- the test of two numbers that differ
 pub unlike : (a c : ℕ) (d : Bool) → (a ≡ c → ⊥) → (nat_eq a c && d) ≡ false
 unlike a c d h = by (nat_eq a c) refl
@@ -111,7 +104,7 @@ pub fresh_unserved : (m : Mission) (b : Begun) (p : Partial) (x : Held) (j : ℕ
 fresh_unserved m b p x j good fresh =
     let above = good.sound.above in
     let base : list_any (λ (s : Support). nat_eq (stop b.base s.token) x.stop && nat_eq s.need j) (supports_of b.base) ≡ false =
-    none_any (λ (s : Support). nat_eq (stop b.base s.token) x.stop && nat_eq s.need j) (supports_of b.base) (all_of (supports_of b.base) (λ s. unlike (stop b.base s.token) x.stop (nat_eq s.need j) (λ e. absurd (let most = place_most (ending s.token.sv.0 s.token.place) (points_of b.base) in omega arith)))) in
+    none_any (λ (s : Support). nat_eq (stop b.base s.token) x.stop && nat_eq s.need j) (supports_of b.base) (all_of (supports_of b.base) (λ s. unlike (stop b.base s.token) x.stop (nat_eq s.need j) (λ e. absurd (let most = place_at_most (ending s.token.sv.0 s.token.place) (points_of b.base) in omega arith)))) in
     let new : list_any (λ (s : Backing). nat_eq s.token.stop x.stop && nat_eq s.need j) p.supports ≡ false =
     none_any (λ (s : Backing). nat_eq s.token.stop x.stop && nat_eq s.need j) p.supports (each_weaker (λ (s : Backing). IsIn p s.token × IsIn p s.by) (λ (s : Backing). (nat_eq s.token.stop x.stop && nat_eq s.need j) ≡ false) (λ s at. unlike s.token.stop x.stop (nat_eq s.need j) (λ e. absurd (let f = good.sound.fresh s.token.kind.sv.0 s.token at.0 in omega (arith, f.1)))) p.supports good.sound.backed) in
     let left : list_any (λ (d : Deferral). nat_eq d.stop x.stop && nat_eq d.need j) p.deferred ≡ false =

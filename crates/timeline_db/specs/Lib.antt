@@ -17,3 +17,4 @@ pub mod Laying
 pub mod Waiting
 pub mod Databases
 pub mod Drafts
+pub mod Samples

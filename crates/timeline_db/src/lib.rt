@@ -20,6 +20,8 @@ mod serving;
 mod shut;
 mod standing;
 mod supporting;
+#[cfg(test)]
+mod tests;
 mod token;
 mod undoing;
 

@@ -5,7 +5,7 @@ ghost use Rattle.hs_base.specs.Checked.{fixed_of};
 ghost use Rattle.hs_base.specs.Missions.{IsMission};
 ghost use Rattle.hs_base.specs.Points.{value_of};
 ghost use Rattle.hs_base.specs.Ranges.{InRange, whole};
-ghost use Rattle.hs_base.specs.Schedule.{bound};
+ghost use Rattle.hs_base.specs.Schedule.{Meets, Schedule, bound};
 ghost use Rattle.plan_check.specs.Fixing.{AreFlags};
 ghost use Rattle.plan_check.specs.Seen.{seen};
 ghost use Rattle.search_tree.specs.Begun.{begun_of, stub};
@@ -26,7 +26,7 @@ use crate::draft::Draft;
 use crate::laying::lay_out;
 use crate::line::Line;
 use crate::lookups::value_at;
-use crate::{Db, Token};
+use crate::{Db, Shut, Token};
 use hs_base::{Bound, Copies, Extension, LAST, Memory, Mission, PointId, Range, Time};
 use plan_check::Snapshot;
 use search_tree::Held;
@@ -236,18 +236,20 @@ fn opening_bounds(alloc: Global, snapshot: &Snapshot, lines: &[Line]) -> Result<
     Ok(made)
 }
 
-/// A trail of these bounds. Where a search begins they have a schedule, so only memory may be
-/// wanting.
+/// A trail of bounds that have a schedule, so none of them is refused.
 fn trail_of(alloc: Global, points: u32, bounds: &[Bound]) -> Result<Trail, Memory>
     requires points { (1 ≤ points) × (points ≤ POINTS) }
     requires range { All (IsInRange points) bounds.now }
+    requires schedule { (t : Schedule) × Meets bounds.now t }
     ensures first { IfOk result (λ t. t.first ≡ points) }
     ensures parts { IfOk result (λ t. t.parts ≡ map (λ b. Added b) bounds.now) }
 {
     let mut trail = Trail::begin(alloc, points)?;
     match add_all(&mut trail, bounds) {
         Ok(()) => Ok(trail),
-        Err(_) => Err(Memory),
+        Err(Shut::Memory) => Err(Memory),
+        Err(Shut::Cycle(_)) => unreachable!(),
+        Err(Shut::Full) => unreachable!(),
     }
 }
 

@@ -9,7 +9,8 @@ use Rattle.search_tree.specs.Search.{FindsPlan}
 use Rattle.search_tree.specs.Tree.{plan}
 use Rattle.plan_search.specs.First.{outset}
 use Rattle.plan_search.specs.Told.{told}
-use Rattle.plan_search.proofs.OutsetLemmas.{begins_anywhere, found_planned}
+use Rattle.plan_search.proofs.OutsetLemmas.{found_planned}
+use Rattle.timeline_db.proofs.OpeningLemmas.{begins_anywhere}
 use Rattle.plan_search.proofs.first.first_plan.Goals as goal
 
 pub search_alone-requires-clause-begin : goal.search_alone-requires-clause-begin

@@ -1,7 +1,8 @@
 use Rattle.std.proofs.Common.{◌≡◌, ℕ, ◌<◌, Some, length, set, get_or, slice_get, sym, ap, ◌∙◌, subst, inl, inr, length-set, arith}
 use Rattle.std.proofs.lemmas.Bool.{cases_lt}
 use Rattle.std.proofs.lemmas.Option.{get_or_from_slice_get, slice_get-get_or, slice_get_within}
-use Rattle.timeline_db.proofs.OutsetLemmas.{set_here, set_there}
+use Rattle.search_laws.proofs.LawfulLemmas.{set_there}
+use Rattle.timeline_db.proofs.LayingLemmas.{set_here}
 use Rattle.timeline_db.specs.Laying.{NotesLast}
 use Rattle.timeline_db.specs.Lines.{Shown}
 use Rattle.timeline_db.proofs.laying.note_all.Goals as goal

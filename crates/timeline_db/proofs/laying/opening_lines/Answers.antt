@@ -8,7 +8,7 @@ use Rattle.hs_base.specs.Points.{count, points_of, tokens_of}
 use Rattle.hs_base.specs.declared.mission.Kind.{Kind}
 use Rattle.hs_base.specs.declared.plan.Extension.{Extension}
 use Rattle.plan_check.proofs.WithinLemmas.{all_below, few_tokens}
-use Rattle.timeline_db.proofs.FewLemmas.{timeline_few}
+use Rattle.timeline_db.proofs.TotalLemmas.{timeline_few}
 use Rattle.timeline_db.proofs.LayingLemmas.{laid_given, write_back}
 use Rattle.timeline_db.proofs.OutsetLemmas.{outset_first, outset_later}
 use Rattle.timeline_db.specs.Laying.{AreFirst, AreLaidOf, AreOutset, NotesAll}

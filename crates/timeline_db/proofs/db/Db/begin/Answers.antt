@@ -13,7 +13,7 @@ use Rattle.search_tree.specs.Begun.{Begun, begun_of, pending}
 use Rattle.search_tree.specs.Partial.{Partial}
 use Rattle.stn_trail.specs.Held.{Held as Trailed}
 use Rattle.stn_trail.specs.declared.part.Part.TheVariants.{Added}
-use Rattle.timeline_db.proofs.OpeningLemmas.{db_copied, fixed_counted, fixed_few, open_copied, root_few, root_range, tick_fits, whole_fits}
+use Rattle.timeline_db.proofs.OpeningLemmas.{db_copied, fixed_counted, fixed_few, open_copied, root_few, root_kept, root_range, tick_fits, whole_fits}
 use Rattle.timeline_db.specs.Kept.{tick_of}
 use Rattle.timeline_db.proofs.db.Db.begin.Goals as goal
 
@@ -24,6 +24,9 @@ trail_of-requires-clause-points c =
 pub trail_of-requires-clause-range : goal.trail_of-requires-clause-range
 trail_of-requires-clause-range c =
     root_range c.args.snapshot.now.plan.mission (begun_of (seen c.args.snapshot.now)) c.requires c.in_ok-board.board.points c.deref-2.result.now (ap (λ (p : Partial). p.points) c.in_ok-board.ensures.shows) (c.deref-2.ensures.value ∙ c.in_ok-made.ensures)
+
+pub trail_of-requires-clause-schedule : goal.trail_of-requires-clause-schedule
+trail_of-requires-clause-schedule c = root_kept c.args.snapshot.now.plan.mission (begun_of (seen c.args.snapshot.now)) c.requires c.deref-2.result.now (c.deref-2.ensures.value ∙ c.in_ok-made.ensures)
 
 pub count_fixed-settled-requires : goal.count_fixed-settled-requires
 count_fixed-settled-requires c =

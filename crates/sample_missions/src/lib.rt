@@ -1,0 +1,6 @@
+//! The sample missions as values, for the tests of the crates above.
+#![tactic(auto)]
+
+mod missions;
+
+pub use missions::{camera, camera_extension};
