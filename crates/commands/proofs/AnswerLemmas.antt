@@ -14,7 +14,7 @@ use Rattle.commands.specs.Prints.{IsAccepted, IsPrinted, Prints}
 use Rattle.commands.specs.Checks.{IsSound, Judges, Checks}
 use Rattle.commands.specs.Sims.{IsPlain, IsFlown, Runs, Sims}
 use Rattle.commands.specs.declared.status.Status.{Status}
-use Rattle.commands.specs.declared.status.Status.TheVariants.{Done, Usage, Refused, ReadFault, WriteFault, NoMemory, PlanRefused}
+use Rattle.commands.specs.declared.status.Status.TheVariants.{Done, Usage, Refused, NoPlan, Budget, ReadFault, WriteFault, NoMemory, PlanRefused}
 use Rattle.commands.proofs.GivenLemmas.{given_one, given_or_refused, given_or_alone, behind_or_refused}
 use Rattle.commands.proofs.FrontLemmas.{in_front_or_refused}
 use Rattle.commands.proofs.SoundLemmas.{checked_or_faulty}
@@ -30,6 +30,8 @@ pub printed : (bytes text : List ℕ) (a : Ast) (status : Status) → IsAccepted
 printed bytes text a Done h p = (refl, p.is ∙ ap canonical (spelled_one bytes p.ast a p.accepted.spells h.spells))
 printed bytes text a Refused h p = absurd (accepted_or_refused bytes text a h p)
 printed bytes text a Usage h p = absurd p
+printed bytes text a NoPlan h p = absurd p
+printed bytes text a Budget h p = absurd p
 printed bytes text a ReadFault h p = absurd p
 printed bytes text a WriteFault h p = absurd p
 printed bytes text a NoMemory h p = absurd p
@@ -40,6 +42,8 @@ judged_sound m es Done text c j = (refl, j.line)
 judged_sound m es PlanRefused text c j = absurd (checked_or_faulty m es text c j)
 judged_sound m es Usage text c j = absurd j
 judged_sound m es Refused text c j = absurd j
+judged_sound m es NoPlan text c j = absurd j
+judged_sound m es Budget text c j = absurd j
 judged_sound m es ReadFault text c j = absurd j
 judged_sound m es WriteFault text c j = absurd j
 judged_sound m es NoMemory text c j = absurd j
@@ -56,17 +60,19 @@ run_flown m es Done text p one c r = (refl, r)
 run_flown m es PlanRefused text p one c r = elim r.cause [ inl k ↦ absurd (k.other one) | inr k ↦ absurd (checked_or_faulty m es text c k.1) ]
 run_flown m es Refused text p one c r = absurd (r.0 p)
 run_flown m es Usage text p one c r = absurd r
+run_flown m es NoPlan text p one c r = absurd r
+run_flown m es Budget text p one c r = absurd r
 run_flown m es ReadFault text p one c r = absurd r
 run_flown m es WriteFault text p one c r = absurd r
 run_flown m es NoMemory text p one c r = absurd r
 
 -- a plain mission is flown by its checked plan
-pub flown : (bytes text : List ℕ) (m : Mission) (es : List Extension) (status : Status) → IsGiven bytes m es → IsPlain m → length es ≡ 1 → Checked m es → Sims bytes status text → (status ≡ Done) × IsFlown m es text
-flown bytes text m es status g p one c (inl r) =
+pub flown : (nodes : ℕ) (bytes text : List ℕ) (m : Mission) (es : List Extension) (status : Status) → IsGiven bytes m es → IsPlain m → length es ≡ 1 → Checked m es → Sims nodes bytes status text → (status ≡ Done) × IsFlown m es text
+flown nodes bytes text m es status g p one c (inl (inl r)) =
     let e = given_one bytes r.mission m r.plan es r.given g in
     run_flown m es status text p one c (subst (λ (x : Mission). Runs x es status text) e.0 (subst (λ (l : List Extension). Runs r.mission l status text) e.1 r.runs))
-flown bytes text m es status g p one c (inr (s, inl u)) = absurd (given_or_alone bytes m u.mission u.used es g u.front u.ends)
-flown bytes text m es status g p one c (inr (s, inr r)) = elim r.why [
-  | inl f ↦ absurd (in_front_or_refused bytes m g.used r.refusal g.mission f)
-  | inr n ↦ absurd (behind_or_refused bytes m es r.refusal g n.behind)
+flown nodes bytes text m es status g p one c (inl (inr u)) = absurd (given_or_alone bytes m u.mission u.used es g u.front u.ends)
+flown nodes bytes text m es status g p one c (inr r) = elim r.1.why [
+  | inl f ↦ absurd (in_front_or_refused bytes m g.used r.1.refusal g.mission f)
+  | inr n ↦ absurd (behind_or_refused bytes m es r.1.refusal g n.behind)
 ]

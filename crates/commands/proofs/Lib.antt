@@ -2,6 +2,8 @@ pub mod InputLemmas
 pub mod MeansLemmas
 pub mod FrontLemmas
 pub mod GivenLemmas
+pub mod WholeLemmas
+pub mod SearchLemmas
 pub mod SoundLemmas
 pub mod FaultLemmas
 pub mod DeviceLemmas

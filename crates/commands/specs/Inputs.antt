@@ -7,7 +7,7 @@ use Rattle.hs_base.specs.declared.refusal.Refusal.{Refusal}
 use Rattle.hs_base.specs.declared.refusal.Refusal.TheVariants.{Memory as NoMemoryLeft}
 use Rattle.hs_base.specs.Pieces.{Placed, IsTextOf}
 use Rattle.hs_base.specs.MissionMeaning.{Means}
-use Rattle.hs_base.specs.MissionSpelling.{SpellsFront, IsFrontRefusal, IsMissionRefusal}
+use Rattle.hs_base.specs.MissionSpelling.{Spells, SpellsFront, IsFrontRefusal, IsMissionRefusal}
 use Rattle.hs_base.specs.RefusalText.{refusal_line}
 use Rattle.plan_text.specs.PlanSpelling.{PlanSpells, IsPlanRefusal}
 use Rattle.commands.specs.declared.status.Status.{Status}
@@ -17,6 +17,12 @@ use Rattle.commands.specs.declared.status.Status.TheVariants.{Refused}
 pub record IsInFront (bytes : List ℕ) (m : Mission) (used : ℕ) : Type 0 where
   pub ast : Ast
   pub spells : SpellsFront bytes ast used
+  pub means : Means ast m
+
+-- the bytes spell an accepted mission, and nothing else
+pub record IsWhole (bytes : List ℕ) (m : Mission) : Type 0 where
+  pub ast : Ast
+  pub spells : Spells bytes ast
   pub means : Means ast m
 
 -- why none does

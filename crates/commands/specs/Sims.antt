@@ -1,5 +1,5 @@
 -- What `sim` makes of an input.
-use Rattle.std.specs.Prelude.{◌≡◌, ◌≢◌, ◌⊎◌, ℕ, List, ◌++◌, length, codes}
+use Rattle.std.specs.Prelude.{◌≡◌, ◌≢◌, ◌⊎◌, ℕ, List, [], ◌++◌, length, codes}
 use Rattle.hs_base.specs.declared.mission.Mission.{Mission}
 use Rattle.hs_base.specs.declared.plan.Extension.{Extension}
 use Rattle.hs_base.specs.declared.history.Entry.{Entry}
@@ -10,10 +10,11 @@ use Rattle.hs_base.specs.RefusalText.{not_one_text}
 use Rattle.flight_laws.specs.Flights.{HasNoDevices, IsFlight, EndsByFiring, mark_of}
 use Rattle.commands.specs.Inputs.{IsInFront, IsFrontRefusalOf, EndsAt, IsGiven, IsBehindRefusal, IsRefused}
 use Rattle.commands.specs.Checks.{IsFaulty}
+use Rattle.commands.specs.Searches.{Searches}
 use Rattle.commands.specs.declared.status.Status.{Status}
 use Rattle.commands.specs.declared.status.Status.TheVariants.{Done, Refused, PlanRefused}
 
--- the line of what isn't built yet: a run without a plan, of several horizons, or with devices
+-- the line of what isn't built yet: a run of several horizons, or with devices
 abbrev pub unbuilt_line : List ℕ
 unbuilt_line = codes "refused 0\n"
 
@@ -55,13 +56,17 @@ pub record IsRun (bytes : List ℕ) (status : Status) (text : List ℕ) : Type 0
   pub given : IsGiven bytes mission plan
   pub runs : Runs mission plan status text
 
--- nothing stands behind the mission
-pub record IsUnplanned (bytes text : List ℕ) : Type 0 where
+-- what comes of a mission whose first plan is searched for
+abbrev pub Flies : Mission → ℕ → Status → List ℕ → Type 0
+Flies m nodes status text = (IsPlain m × Searches m nodes (log_text m []) (IsFlown m) status text) ⊎ ((IsPlain m → ⊥) × (status ≡ Refused) × (text ≡ unbuilt_line))
+
+-- nothing stands behind the mission, of which this comes
+pub record IsAlone (nodes : ℕ) (bytes : List ℕ) (status : Status) (text : List ℕ) : Type 0 where
   pub mission : Mission
   pub used : ℕ
   pub front : IsInFront bytes mission used
   pub ends : EndsAt bytes used
-  pub line : text ≡ unbuilt_line
+  pub flies : Flies mission nodes status text
 
 -- what stands behind the mission is no plan for it
 pub record IsNoPlan (bytes : List ℕ) (r : Refusal) : Type 0 where
@@ -72,5 +77,5 @@ pub record IsNoPlan (bytes : List ℕ) (r : Refusal) : Type 0 where
 abbrev pub IsRunRefusal : List ℕ → Refusal → Type 0
 IsRunRefusal bytes r = IsFrontRefusalOf bytes r ⊎ IsNoPlan bytes r
 
-abbrev pub Sims : List ℕ → Status → List ℕ → Type 0
-Sims bytes status text = IsRun bytes status text ⊎ ((status ≡ Refused) × (IsUnplanned bytes text ⊎ IsRefused (IsRunRefusal bytes) text))
+abbrev pub Sims : ℕ → List ℕ → Status → List ℕ → Type 0
+Sims nodes bytes status text = (IsRun bytes status text ⊎ IsAlone nodes bytes status text) ⊎ ((status ≡ Refused) × IsRefused (IsRunRefusal bytes) text)

@@ -1,11 +1,21 @@
 ghost use Rattle.std.specs.Prelude.{◌≡◌, length, MatchResult};
+ghost use Rattle.hs_base.specs.MissionSpelling.{IsRefusalOf};
 ghost use Rattle.text_laws.specs.Refused.{OrMemory};
-ghost use Rattle.commands.specs.Inputs.{IsInFront, IsFrontRefusalOf, IsGiven, IsGivenRefusal};
+ghost use Rattle.commands.specs.Inputs.{IsWhole, IsInFront, IsFrontRefusalOf, IsGiven, IsGivenRefusal};
 
-use ddl_read::{Pieces, read_front};
+use ddl_read::{Pieces, read, read_front};
 use domain_check::accept;
 use hs_base::{Mission, Plan, Refusal};
 use std::alloc::Global;
+
+/// The accepted mission that a text spells.
+pub fn whole(alloc: Global, text: &[u8]) -> Result<Mission, Refusal>
+    ensures { MatchResult result (IsWhole text.now) (OrMemory (IsRefusalOf text.now)) }
+{
+    let ast = read(alloc, text)?;
+    let mission = accept(alloc, &ast)?;
+    Ok(mission)
+}
 
 /// The accepted mission at the front of a text, and how many pieces it has.
 pub fn front(alloc: Global, text: &[u8]) -> Result<(Mission, u32), Refusal>

@@ -1,12 +1,17 @@
 // The laws of what commands make of good inputs.
-ghost use Rattle.std.specs.Prelude.{◌≡◌, ℕ, List, length};
+ghost use Rattle.std.specs.Prelude.{◌≡◌, ℕ, List, [], length};
 ghost use Rattle.hs_base.specs.declared.ast.Ast.{Ast};
 ghost use Rattle.hs_base.specs.declared.mission.Mission.{Mission};
 ghost use Rattle.hs_base.specs.declared.plan.Extension.{Extension};
 ghost use Rattle.hs_base.specs.CanonicalText.{canonical};
 ghost use Rattle.hs_base.specs.Checked.{Checked};
 ghost use Rattle.hs_base.specs.ClosingText.{checked_line};
-ghost use Rattle.commands.specs.Inputs.{IsGiven};
+ghost use Rattle.hs_base.specs.LogText.{log_text};
+ghost use Rattle.search_tree.specs.Tree.{Found};
+ghost use Rattle.plan_search.specs.First.{FindsFirst};
+ghost use Rattle.commands.specs.Inputs.{IsGiven, IsWhole};
+ghost use Rattle.commands.specs.Plans.{IsNetText, IsPlanText, Nets, Plans};
+ghost use Rattle.commands.specs.Searches.{IsToldOf};
 ghost use Rattle.commands.specs.Prints.{IsAccepted, Prints};
 ghost use Rattle.commands.specs.Checks.{Checks};
 ghost use Rattle.commands.specs.Sims.{IsPlain, IsFlown, Sims};
@@ -26,5 +31,18 @@ pub fn a_checked_plan_is_sound()
 /// A mission of one horizon without devices is flown by the checked plan of one extension that
 /// follows it.
 pub fn a_plain_mission_is_flown()
-    ensures { (bytes text : List ℕ) (m : Mission) (es : List Extension) (status : StatusOf) → IsGiven bytes m es → IsPlain m → length es ≡ 1 → Checked m es → Sims bytes status text → (status ≡ Done) × IsFlown m es text }
+    ensures { (nodes : ℕ) (bytes text : List ℕ) (m : Mission) (es : List Extension) (status : StatusOf) → IsGiven bytes m es → IsPlain m → length es ≡ 1 → Checked m es → Sims nodes bytes status text → (status ≡ Done) × IsFlown m es text }
+{}
+
+/// Of an accepted mission alone it is told what the search finds: the plan, or under `net` its
+/// network, that there is none, or where the nodes ended.
+pub fn what_a_search_finds_is_told()
+    ensures plans { (nodes : ℕ) (bytes text : List ℕ) (m : Mission) (found : Found Extension) (status : StatusOf) → IsWhole bytes m → FindsFirst m nodes found → Plans nodes bytes status text → IsToldOf m [] (IsPlanText m) found status text }
+    ensures nets { (nodes : ℕ) (bytes text : List ℕ) (m : Mission) (found : Found Extension) (status : StatusOf) → IsWhole bytes m → FindsFirst m nodes found → Nets nodes bytes status text → IsToldOf m [] (IsNetText m) found status text }
+{}
+
+/// A mission of one horizon without devices is flown alone by the plan that the search finds; else
+/// the head of its log is written, and why no plan was found.
+pub fn a_plain_mission_alone_is_flown()
+    ensures { (nodes : ℕ) (bytes text : List ℕ) (m : Mission) (found : Found Extension) (status : StatusOf) → IsWhole bytes m → IsPlain m → FindsFirst m nodes found → Sims nodes bytes status text → IsToldOf m (log_text m []) (IsFlown m) found status text }
 {}

@@ -5,6 +5,7 @@ mod checking;
 mod input;
 mod laws;
 mod outcome;
+mod planning;
 mod printing;
 mod simulation;
 mod status;
@@ -12,8 +13,12 @@ mod status;
 mod tests;
 
 pub use checking::check;
-pub use laws::{a_checked_plan_is_sound, a_plain_mission_is_flown, an_accepted_mission_is_printed};
+pub use laws::{
+    a_checked_plan_is_sound, a_plain_mission_alone_is_flown, a_plain_mission_is_flown,
+    an_accepted_mission_is_printed, what_a_search_finds_is_told,
+};
 pub use outcome::Outcome;
+pub use planning::{net, plan};
 pub use printing::print;
 pub use simulation::sim;
 pub use status::Status;

@@ -1,4 +1,5 @@
-ghost use Rattle.std.specs.Prelude.{◌≡◌, ◌≢◌, ◌↔◌, ◌++◌, not, length, IsTrue, IfOk};
+ghost use Rattle.std.specs.Prelude.{◌≡◌, ◌≢◌, ◌↔◌, ◌++◌, [], not, length, IsTrue, IfOk};
+ghost use Rattle.hs_base.specs.LogText.{log_text};
 ghost use Rattle.std.specs.List.{list_all};
 ghost use Rattle.hs_base.specs.declared.mission.Value.{Value as MissionValue};
 ghost use Rattle.hs_base.specs.declared.mission.Var.{Var as MissionVar};
@@ -6,17 +7,21 @@ ghost use Rattle.hs_base.specs.Missions.{IsMission};
 ghost use Rattle.hs_base.specs.RefusalText.{not_one_text};
 ghost use Rattle.ddl_read.specs.Cutting.{IsCut};
 ghost use Rattle.commands.specs.Inputs.{IsInFront};
-ghost use Rattle.commands.specs.Sims.{IsPlain, IsFlown, Runs, Sims, unbuilt_line};
+ghost use Rattle.commands.specs.Searches.{Searches};
+ghost use Rattle.commands.specs.Untold.{IsToldWhy};
+ghost use Rattle.commands.specs.Sims.{IsPlain, IsFlown, Runs, Flies, Sims, unbuilt_line};
 
 use crate::checking::{check_each, faulty};
 use crate::input::front;
 use crate::outcome::refused;
+use crate::planning::push_unplanned;
 use crate::{Outcome, Status};
 use answer_lines::push_not_one;
 use ddl_read::Pieces;
 use hs_base::{Memory, Mission, Plan, Refusal, Text, Var};
 use hs_port::Device;
 use plan_check::CheckedPlan;
+use plan_search::{Unplanned, first_plan};
 use sim_run::fly;
 use std::alloc::Global;
 
@@ -129,20 +134,67 @@ fn run<D: Device>(
     check_and_fly(alloc, mission, plan, devices)
 }
 
+/// The log of a run that had no plan, which the line that none was found follows.
+fn grounded(alloc: Global, mission: &Mission, why: &Unplanned) -> Result<Outcome, Memory>
+    ensures { IfOk result (λ o. IsToldWhy why.now (log_text mission.now []) o.status o.text) }
+{
+    let mut text = journal_text::write(alloc, mission, &[])?;
+    let status = push_unplanned(&mut text, why)?;
+    Ok(Outcome { status, text })
+}
+
+/// Searches the first plan of a mission of one horizon without devices, and flies it.
+fn search_and_fly<D: Device>(
+    alloc: Global,
+    mission: &Mission,
+    budget: u64,
+    devices: &mut [D],
+) -> Result<Outcome, Memory>
+    requires mission { IsMission mission.now }
+    requires plain { IsPlain mission.now }
+    ensures { IfOk result (λ o. Searches mission.now budget (log_text mission.now []) (IsFlown mission.now) o.status o.text) }
+{
+    match first_plan(alloc, mission, budget) {
+        Ok(checked) => {
+            load_all(alloc, mission, devices)?;
+            flown(alloc, checked)
+        }
+        Err(why) => grounded(alloc, mission, &why),
+    }
+}
+
+/// What comes of a mission alone.
+fn alone<D: Device>(
+    alloc: Global,
+    mission: &Mission,
+    budget: u64,
+    devices: &mut [D],
+) -> Result<Outcome, Memory>
+    requires { IsMission mission.now }
+    ensures { IfOk result (λ o. Flies mission.now budget o.status o.text) }
+{
+    if is_plain(mission) {
+        search_and_fly(alloc, mission, budget, devices)
+    } else {
+        unbuilt(alloc)
+    }
+}
+
 /// What comes of the pieces behind a mission.
 fn behind<D: Device>(
     alloc: Global,
     mission: &Mission,
     pieces: &Pieces,
     used: u32,
+    budget: u64,
     devices: &mut [D],
 ) -> Result<Outcome, Memory>
     requires cut { IsCut pieces.now.bytes pieces.now.pieces }
     requires front { IsInFront pieces.now.bytes mission.now used }
-    ensures { IfOk result (λ o. Sims pieces.now.bytes o.status o.text) }
+    ensures { IfOk result (λ o. Sims budget pieces.now.bytes o.status o.text) }
 {
     if used == pieces.count() {
-        return unbuilt(alloc);
+        return alone(alloc, mission, budget, devices);
     }
     match plan_text::read(alloc, mission, pieces, used) {
         Ok(plan) => run(alloc, mission, &plan, devices),
@@ -150,17 +202,22 @@ fn behind<D: Device>(
     }
 }
 
-/// Flies the plan that follows its mission, and writes the log. A mission with devices, of several
-/// horizons, or without a plan isn't taken yet.
-pub fn sim<D: Device>(alloc: Global, text: &[u8], devices: &mut [D]) -> Result<Outcome, Memory>
-    ensures { IfOk result (λ o. Sims text.now o.status o.text) }
+/// Flies the plan that follows its mission, or else the first one that a search of so many nodes
+/// finds, and writes the log. A mission with devices or of several horizons isn't taken yet.
+pub fn sim<D: Device>(
+    alloc: Global,
+    text: &[u8],
+    budget: u64,
+    devices: &mut [D],
+) -> Result<Outcome, Memory>
+    ensures { IfOk result (λ o. Sims budget text.now o.status o.text) }
 {
     let (mission, used) = match front(alloc, text) {
         Ok(front) => front,
         Err(refusal) => return refused(alloc, &refusal),
     };
     match Pieces::cut(alloc, text) {
-        Ok(pieces) => behind(alloc, &mission, &pieces, used, devices),
+        Ok(pieces) => behind(alloc, &mission, &pieces, used, budget, devices),
         Err(refusal) => refused(alloc, &refusal),
     }
 }

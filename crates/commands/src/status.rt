@@ -10,6 +10,10 @@ pub enum Status {
     Usage = 1,
     /// The input was refused.
     Refused = 2,
+    /// There is no plan.
+    NoPlan = 3,
+    /// The budget of nodes ended before a plan was found.
+    Budget = 4,
     /// The input couldn't be read.
     ReadFault = 6,
     /// The output couldn't be written.

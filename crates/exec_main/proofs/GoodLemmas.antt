@@ -1,5 +1,5 @@
 -- What comes of good inputs.
-use Rattle.std.proofs.Common.{◌≡◌, ℕ, ◌≤◌, List, ◌++◌, length, length-append, append-nil, sym, ap, ◌∙◌, subst, arith, inl, inr}
+use Rattle.std.proofs.Common.{◌≡◌, ℕ, ◌≤◌, List, [], ◌++◌, length, length-append, append-nil, sym, ap, ◌∙◌, subst, arith, inl, inr}
 use Rattle.std.specs.Prelude.{Some, None}
 use Rattle.std.specs.declared.option.Option.{Option}
 use Rattle.hs_base.specs.declared.limits.TheConstants.{TEXT_BYTES}
@@ -9,16 +9,23 @@ use Rattle.hs_base.specs.declared.plan.Extension.{Extension}
 use Rattle.hs_base.specs.CanonicalText.{canonical}
 use Rattle.hs_base.specs.Checked.{Checked}
 use Rattle.hs_base.specs.ClosingText.{checked_line}
-use Rattle.command_line.specs.declared.request.Command.TheVariants.{Print, Check, Sim}
-use Rattle.commands.specs.Inputs.{IsGiven}
-use Rattle.commands.specs.Prints.{IsAccepted, Prints}
-use Rattle.commands.specs.Checks.{Checks}
-use Rattle.commands.specs.Sims.{IsPlain, IsFlown, Sims}
+use Rattle.hs_base.specs.LogText.{log_text}
+use Rattle.search_tree.specs.Tree.{Found}
+use Rattle.plan_search.specs.First.{FindsFirst}
+use Rattle.command_line.specs.declared.request.Command.{Command}
+use Rattle.command_line.specs.declared.request.Command.TheVariants.{Print, Plan, Check, Net, Sim}
+use Rattle.command_line.specs.declared.request.Request.{Request}
+use Rattle.commands.specs.Inputs.{IsGiven, IsWhole}
+use Rattle.commands.specs.Plans.{IsNetText, IsPlanText}
+use Rattle.commands.specs.Searches.{IsToldOf}
+use Rattle.commands.specs.Prints.{IsAccepted}
+use Rattle.commands.specs.Sims.{IsPlain, IsFlown}
 use Rattle.commands.specs.declared.status.Status.{Status}
 use Rattle.commands.specs.declared.status.Status.TheVariants.{Done}
 use Rattle.commands.proofs.AnswerLemmas.{printed, sound, flown}
+use Rattle.commands.proofs.SearchLemmas.{searched, flown_alone}
 use Rattle.exec_main.specs.Streams.{Reads}
-use Rattle.exec_main.specs.Ground.{Delivers, Writes}
+use Rattle.exec_main.specs.Ground.{Makes, Delivers, Writes, WritesSuch}
 
 -- what was read of bytes that aren't too long is all of them
 whole : (bytes read : List ℕ) (left : Option (List ℕ)) → length bytes ≤ TEXT_BYTES → Reads (Some bytes) left read → read ≡ bytes
@@ -33,21 +40,33 @@ due_is : (result : ℕ) (status : Status) (taken taken_after : Option (List ℕ)
 due_is result status taken taken_after text due e w =
     subst (λ (s : Status). Writes result s taken taken_after due) e.0 (subst (λ (l : List ℕ). Writes result status taken taken_after l) e.1 w)
 
-pub accepted_printed : (bytes : List ℕ) (a : Ast) (result : ℕ) (left taken taken_after : Option (List ℕ)) → IsAccepted bytes a → Delivers Print result (Some bytes) left taken taken_after → Writes result Done taken taken_after (canonical a)
-accepted_printed bytes a result left taken taken_after h d =
-    let same = whole bytes d.due.bytes left h.spells.text.short d.due.read in
-    let answers : Prints bytes d.status d.text = subst (λ (l : List ℕ). Prints l d.status d.text) same d.due.answers in
-    due_is result d.status taken taken_after d.text (canonical a) (printed bytes d.text a d.status h answers) d.written
+-- what the command makes of the bytes
+made : (q : Request) (c : Command) (bytes : List ℕ) (result : ℕ) (left taken taken_after : Option (List ℕ)) → q.command ≡ c → length bytes ≤ TEXT_BYTES → (d : Delivers q result (Some bytes) left taken taken_after) → Makes c q.budget bytes d.status d.text
+made q c bytes result left taken taken_after is short d =
+    subst (λ (x : Command). Makes x q.budget bytes d.status d.text) is
+    (subst (λ (l : List ℕ). Makes q.command q.budget l d.status d.text) (whole bytes d.due.bytes left short d.due.read) d.due.answers)
 
-pub checked_told : (bytes : List ℕ) (m : Mission) (es : List Extension) (result : ℕ) (left taken taken_after : Option (List ℕ)) → IsGiven bytes m es → Checked m es → Delivers Check result (Some bytes) left taken taken_after → Writes result Done taken taken_after (checked_line (length es))
-checked_told bytes m es result left taken taken_after g c d =
-    let same = whole bytes d.due.bytes left g.mission.spells.text.short d.due.read in
-    let answers : Checks bytes d.status d.text = subst (λ (l : List ℕ). Checks l d.status d.text) same d.due.answers in
-    due_is result d.status taken taken_after d.text (checked_line (length es)) (sound bytes d.text m es d.status g c answers) d.written
+pub accepted_printed : (q : Request) (bytes : List ℕ) (a : Ast) (result : ℕ) (left taken taken_after : Option (List ℕ)) → q.command ≡ Print → IsAccepted bytes a → Delivers q result (Some bytes) left taken taken_after → Writes result Done taken taken_after (canonical a)
+accepted_printed q bytes a result left taken taken_after is h d =
+    due_is result d.status taken taken_after d.text (canonical a) (printed bytes d.text a d.status h (made q Print bytes result left taken taken_after is h.spells.text.short d)) d.written
 
-pub checked_flown : (bytes : List ℕ) (m : Mission) (es : List Extension) (result : ℕ) (left taken taken_after : Option (List ℕ)) → IsGiven bytes m es → IsPlain m → length es ≡ 1 → Checked m es → Delivers Sim result (Some bytes) left taken taken_after → (text : List ℕ) × IsFlown m es text × Writes result Done taken taken_after text
-checked_flown bytes m es result left taken taken_after g plain one c d =
-    let same = whole bytes d.due.bytes left g.mission.spells.text.short d.due.read in
-    let answers : Sims bytes d.status d.text = subst (λ (l : List ℕ). Sims l d.status d.text) same d.due.answers in
-    let comes = flown bytes d.text m es d.status g plain one c answers in
+pub checked_told : (q : Request) (bytes : List ℕ) (m : Mission) (es : List Extension) (result : ℕ) (left taken taken_after : Option (List ℕ)) → q.command ≡ Check → IsGiven bytes m es → Checked m es → Delivers q result (Some bytes) left taken taken_after → Writes result Done taken taken_after (checked_line (length es))
+checked_told q bytes m es result left taken taken_after is g c d =
+    due_is result d.status taken taken_after d.text (checked_line (length es)) (sound bytes d.text m es d.status g c (made q Check bytes result left taken taken_after is g.mission.spells.text.short d)) d.written
+
+pub checked_flown : (q : Request) (bytes : List ℕ) (m : Mission) (es : List Extension) (result : ℕ) (left taken taken_after : Option (List ℕ)) → q.command ≡ Sim → IsGiven bytes m es → IsPlain m → length es ≡ 1 → Checked m es → Delivers q result (Some bytes) left taken taken_after → (text : List ℕ) × IsFlown m es text × Writes result Done taken taken_after text
+checked_flown q bytes m es result left taken taken_after is g plain one c d =
+    let comes = flown q.budget bytes d.text m es d.status g plain one c (made q Sim bytes result left taken taken_after is g.mission.spells.text.short d) in
     (d.text, comes.1, subst (λ (s : Status). Writes result s taken taken_after d.text) comes.0 d.written)
+
+pub plan_told : (q : Request) (bytes : List ℕ) (m : Mission) (found : Found Extension) (result : ℕ) (left taken taken_after : Option (List ℕ)) → q.command ≡ Plan → IsWhole bytes m → FindsFirst m q.budget found → Delivers q result (Some bytes) left taken taken_after → WritesSuch (IsToldOf m [] (IsPlanText m) found) result taken taken_after
+plan_told q bytes m found result left taken taken_after is h f d =
+    (d.status, d.text, searched IsPlanText q.budget bytes d.text m found d.status h f (made q Plan bytes result left taken taken_after is h.spells.text.short d), d.written)
+
+pub net_told : (q : Request) (bytes : List ℕ) (m : Mission) (found : Found Extension) (result : ℕ) (left taken taken_after : Option (List ℕ)) → q.command ≡ Net → IsWhole bytes m → FindsFirst m q.budget found → Delivers q result (Some bytes) left taken taken_after → WritesSuch (IsToldOf m [] (IsNetText m) found) result taken taken_after
+net_told q bytes m found result left taken taken_after is h f d =
+    (d.status, d.text, searched IsNetText q.budget bytes d.text m found d.status h f (made q Net bytes result left taken taken_after is h.spells.text.short d), d.written)
+
+pub plan_flown : (q : Request) (bytes : List ℕ) (m : Mission) (found : Found Extension) (result : ℕ) (left taken taken_after : Option (List ℕ)) → q.command ≡ Sim → IsWhole bytes m → IsPlain m → FindsFirst m q.budget found → Delivers q result (Some bytes) left taken taken_after → WritesSuch (IsToldOf m (log_text m []) (IsFlown m) found) result taken taken_after
+plan_flown q bytes m found result left taken taken_after is h plain f d =
+    (d.status, d.text, flown_alone q.budget bytes d.text m found d.status h plain f (made q Sim bytes result left taken taken_after is h.spells.text.short d), d.written)

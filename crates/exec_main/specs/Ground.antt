@@ -7,42 +7,51 @@ use Rattle.std.specs.declared.alloc.Global.{Global}
 use Rattle.std.specs.Io.KnownBytes.{Appends}
 use Rattle.command_line.specs.Words.{words_of}
 use Rattle.command_line.specs.declared.request.Command.{Command}
-use Rattle.command_line.specs.declared.request.Command.TheVariants.{Print, Check, Sim}
+use Rattle.command_line.specs.declared.request.Command.TheVariants.{Print, Plan, Check, Net, Sim, Drill, Fly}
 use Rattle.command_line.specs.declared.request.Request.{Request}
 use Rattle.commands.specs.Statuses.{code_of}
 use Rattle.commands.specs.Prints.{Prints}
 use Rattle.commands.specs.Checks.{Checks}
+use Rattle.commands.specs.Plans.{Plans, Nets}
 use Rattle.commands.specs.Sims.{Sims}
 use Rattle.commands.specs.declared.status.Status.{Status}
-use Rattle.commands.specs.declared.status.Status.TheVariants.{Done, Refused, PlanRefused, WriteFault}
+use Rattle.commands.specs.declared.status.Status.TheVariants.{Done, Refused, NoPlan, Budget, PlanRefused, WriteFault}
 use Rattle.exec_main.specs.Streams.{AppendsFront, Reads}
 
--- what a command makes of an input
-abbrev pub Answers : Command → List ℕ → Status → List ℕ → Type 0
-Answers Print = Prints
-Answers Check = Checks
-Answers Sim = Sims
-Answers _ = λ bytes status text. ⊥
+-- what a command makes of an input, with so many nodes for a search
+abbrev pub Makes : Command → ℕ → List ℕ → Status → List ℕ → Type 0
+Makes Print nodes = Prints
+Makes Check nodes = Checks
+Makes Plan nodes = Plans nodes
+Makes Net nodes = Nets nodes
+Makes Sim nodes = Sims nodes
+Makes _ nodes = λ bytes status text. ⊥
+
+-- what is made of an input that the words ask for
+abbrev pub Answers : Request → List ℕ → Status → List ℕ → Type 0
+Answers q = Makes q.command q.budget
 
 -- the commands that are built
 abbrev pub IsBuilt : Command → Type 0
-IsBuilt c = ((c ≡ Print) ⊎ (c ≡ Check)) ⊎ (c ≡ Sim)
+IsBuilt Drill = ⊥
+IsBuilt Fly = ⊥
+IsBuilt _ = ⊤
 
--- the words ask for a command that is built
-pub record AsksFor (words : List (String Global)) (c : Command) : Type 0 where
-  pub request : Request
+-- the words ask for this, and its command is built
+pub record AsksFor (words : List (String Global)) (request : Request) : Type 0 where
   pub asked : words_of (map string_bytes words) ≡ Some request
-  pub command : request.command ≡ c
-  pub built : IsBuilt c
+  pub built : IsBuilt request.command
 
 -- the words ask for none of them
 abbrev pub AsksForNone : List (String Global) → Type 0
-AsksForNone words = (c : Command) → AsksFor words c → ⊥
+AsksForNone words = (q : Request) → AsksFor words q → ⊥
 
 -- the statuses that a command's answer may have
 abbrev pub IsAnswer : Status → Type 0
 IsAnswer Done = ⊤
 IsAnswer Refused = ⊤
+IsAnswer NoPlan = ⊤
+IsAnswer Budget = ⊤
 IsAnswer PlanRefused = ⊤
 IsAnswer _ = ⊥
 
@@ -50,15 +59,19 @@ IsAnswer _ = ⊥
 abbrev pub Writes : ℕ → Status → Option (List ℕ) → Option (List ℕ) → List ℕ → Type 0
 Writes result status old new text = ((result ≡ code_of status) × Appends old new text) ⊎ ((result ≡ code_of WriteFault) × AppendsFront old new text)
 
--- the input was read, and the command makes this of it
-pub record IsDue (c : Command) (left left_after : Option (List ℕ)) (status : Status) (text : List ℕ) : Type 0 where
+-- a text is written with its status, of which this holds
+abbrev pub WritesSuch : (Status → List ℕ → Type 0) → ℕ → Option (List ℕ) → Option (List ℕ) → Type 0
+WritesSuch What result old new = (status : Status) × (text : List ℕ) × What status text × Writes result status old new text
+
+-- the input was read, and this is made of it
+pub record IsDue (q : Request) (left left_after : Option (List ℕ)) (status : Status) (text : List ℕ) : Type 0 where
   pub bytes : List ℕ
   pub read : Reads left left_after bytes
-  pub answers : Answers c bytes status text
+  pub answers : Answers q bytes status text
 
 -- what is due was written, with its status
-pub record Delivers (c : Command) (result : ℕ) (left left_after taken taken_after : Option (List ℕ)) : Type 0 where
+pub record Delivers (q : Request) (result : ℕ) (left left_after taken taken_after : Option (List ℕ)) : Type 0 where
   pub status : Status
   pub text : List ℕ
-  pub due : IsDue c left left_after status text
+  pub due : IsDue q left left_after status text
   pub written : Writes result status taken taken_after text

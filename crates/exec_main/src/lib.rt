@@ -5,7 +5,10 @@ mod laws;
 mod streams;
 mod top;
 
-pub use laws::{accepted_missions_are_printed, checked_plans_are_flown, checked_plans_are_told};
+pub use laws::{
+    accepted_missions_are_printed, checked_plans_are_flown, checked_plans_are_told,
+    first_plans_are_flown, first_plans_are_told, networks_are_told,
+};
 pub use top::ground;
 
 #[cfg(test)]

@@ -22,6 +22,15 @@ const TWICE: &str =
 const LOG: &[u8] =
     b"hsts log 1\nhandover 1 at 0 groups 3 edges 4\nsince 0\ntoken a p\ntoken a q\nclose\nfire a 0 at 2\nhorizon 1 at 10\nstop ended at 10\ndone\n";
 
+/// The plan as it is written, and its network.
+const PLANNED: &[u8] = b"hsts plan 1\nextension 1\nsince 0\ntoken a p\ntoken a q\nclose\nend\n";
+
+const NET: &[u8] =
+    b"hsts net 1\ngroups 3 edges 4\ngroup Z\nmember H 1 10\ngroup a 0\ngroup a 1\nedge Z a 0 4\nedge Z a 1 1000000000\nedge a 0 Z -2\nedge a 1 Z -11\nend\n";
+
+/// A mission whose only token is too short for the horizon.
+const UNPLANNABLE: &str = "hsts 1 var a value p [2,4] begin p horizon 10 end";
+
 const USAGE: &[u8] = b"usage: hsts COMMAND [--budget N] [--seed N] [--size N]\n";
 
 /// How the outside behaves: which read and which write fail, counted from 0, and how much a write takes.
@@ -195,10 +204,9 @@ fn plans_are_checked(rt: HostRuntime) -> Result<(), Fail> {
 
 #[test]
 fn other_plans_are_not_flown(rt: HostRuntime) -> Result<(), Fail> {
-    let plans: [(&str, u8, &[u8]); 4] = [
+    let plans: [(&str, u8, &[u8]); 3] = [
         (MISBEGUN, 11, b"extension 1 fault 2 order a 0\n"),
         (TWICE, 11, b"extension 2 fault 1 base 2 0\n"),
-        ("", 2, b"refused 0\n"),
         ("hsts 1", 2, b"refused 3 at 78\n"),
     ];
     for (plan, status, output) in plans {
@@ -211,6 +219,55 @@ fn other_plans_are_not_flown(rt: HostRuntime) -> Result<(), Fail> {
                 text.as_slice(),
                 WELL,
                 status,
+                output
+            )?
+        );
+    }
+    Ok(())
+}
+
+#[test]
+fn missions_alone_are_planned(rt: HostRuntime) -> Result<(), Fail> {
+    let asked: [(&[&str], u8, &[u8]); 4] = [
+        (&["plan"], 0, PLANNED),
+        (&["net"], 0, NET),
+        (&["sim"], 0, LOG),
+        (&["plan", "--budget", "1"], 4, b"budget after 0 path 0\n"),
+    ];
+    for (words, status, output) in asked {
+        assert!(rt;
+            ends(
+                &rt,
+                rt.alloc(),
+                words,
+                MISSION.as_bytes(),
+                WELL,
+                status,
+                output
+            )?
+        );
+    }
+    Ok(())
+}
+
+#[test]
+fn missions_without_a_plan_are_told(rt: HostRuntime) -> Result<(), Fail> {
+    let asked: [(&[&str], &[u8]); 2] = [
+        (&["net"], b"no plan after 0\n"),
+        (
+            &["sim"],
+            b"hsts log 1\nstop waiting at 0\nno plan after 0\n",
+        ),
+    ];
+    for (words, output) in asked {
+        assert!(rt;
+            ends(
+                &rt,
+                rt.alloc(),
+                words,
+                UNPLANNABLE.as_bytes(),
+                WELL,
+                3,
                 output
             )?
         );

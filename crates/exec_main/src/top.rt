@@ -1,15 +1,15 @@
 ghost use Rattle.std.specs.Prelude.{◌≡◌, ◌⊎◌, length, IfOk, IsErrOf};
 ghost use Rattle.std.specs.Io.KnownBytes.{Keeps};
-ghost use Rattle.command_line.specs.declared.request.Command.{Command as AnyCommand};
+ghost use Rattle.command_line.specs.declared.request.Request.{Request as AnyRequest};
 ghost use Rattle.hs_port.specs.Causes.{Rose};
 ghost use Rattle.commands.specs.Statuses.{code_of};
-ghost use Rattle.exec_main.specs.Ground.{AsksFor, AsksForNone, IsAnswer, IsBuilt, Answers, IsDue, Writes, Delivers};
+ghost use Rattle.exec_main.specs.Ground.{AsksFor, AsksForNone, IsAnswer, IsBuilt, Makes, IsDue, Writes, Delivers};
 ghost use Rattle.exec_main.specs.Streams.{IsWritten};
 ghost use Rattle.exec_main.specs.declared.top.Stop.TheVariants.{Memory as NoMemory};
 
 use crate::streams::{Unread, read_whole, write_whole};
-use command_line::{Command, Unasked, words_of};
-use commands::{Outcome, Status, check, print, sim};
+use command_line::{Command, Request, Unasked, words_of};
+use commands::{Outcome, Status, check, net, plan, print, sim};
 use hs_base::Memory;
 use hs_port::{Device, Sink, Source};
 use std::alloc::Global;
@@ -32,36 +32,40 @@ impl From<Memory> for Stop {
     }
 }
 
-/// The command that the words ask for, where it is built.
-fn asked(alloc: Global, words: &[String]) -> Result<Command, Stop>
+/// What the words ask for, where its command is built.
+fn asked(alloc: Global, words: &[String]) -> Result<Request, Stop>
     ensures asks { IfOk result (AsksFor words.now) }
     ensures usage { IsErrOf result Stop.Usage → AsksForNone words.now }
     ensures no_fault { IsErrOf result Stop.ReadFault → ⊥ }
 {
     match words_of(alloc, words) {
         Ok(request) => match request.command {
-            Command::Print | Command::Check | Command::Sim => Ok(request.command),
-            _ => Err(Stop::Usage),
+            Command::Drill | Command::Fly => Err(Stop::Usage),
+            _ => Ok(request),
         },
         Err(Unasked::Usage) => Err(Stop::Usage),
         Err(Unasked::Memory) => Err(Stop::Memory),
     }
 }
 
-/// What a command makes of an input.
+/// What a command makes of an input, with so many nodes for a search.
 fn answer<D: Device>(
     alloc: Global,
     command: Command,
+    budget: u64,
     text: &[u8],
     devices: &mut [D],
 ) -> Result<Outcome, Memory>
     requires { IsBuilt command }
-    ensures { IfOk result (λ o. Answers command text.now o.status o.text) }
+    ensures made { IfOk result (λ o. Makes command budget text.now o.status o.text) }
+    ensures answered { IfOk result (λ o. IsAnswer o.status) }
 {
     match command {
         Command::Print => print(alloc, text),
         Command::Check => check(alloc, text),
-        _ => sim(alloc, text, devices),
+        Command::Plan => plan(alloc, text, budget),
+        Command::Net => net(alloc, text, budget),
+        _ => sim(alloc, text, budget, devices),
     }
 }
 
@@ -72,15 +76,21 @@ fn outcome_of<S: Source, D: Device>(
     source: &mut S,
     devices: &mut [D],
 ) -> Result<Outcome, Stop>
-    ensures due { (c : AnyCommand) → AsksFor words.now c → IfOk result (λ o. IsDue c (S.left source.old) (S.left source.new) o.status o.text) }
+    ensures due { (q : AnyRequest) → AsksFor words.now q → IfOk result (λ o. IsDue q (S.left source.old) (S.left source.new) o.status o.text) }
     ensures answered { IfOk result (λ o. IsAnswer o.status) }
     ensures usage { IsErrOf result Stop.Usage → AsksForNone words.now }
     ensures unasked { AsksForNone words.now → IsErrOf result Stop.Usage ⊎ IsErrOf result Stop.Memory }
     ensures read_fault { IsErrOf result Stop.ReadFault → Rose (S.faults source.old) (S.faults source.new) }
 {
-    let command = asked(alloc, words)?;
+    let request = asked(alloc, words)?;
     match read_whole(alloc, source) {
-        Ok(text) => Ok(answer(alloc, command, text.as_slice(), devices)?),
+        Ok(text) => Ok(answer(
+            alloc,
+            request.command,
+            request.budget,
+            text.as_slice(),
+            devices,
+        )?),
         Err(Unread::Failed) => Err(Stop::ReadFault),
         Err(Unread::Memory) => Err(Stop::Memory),
     }
@@ -125,7 +135,7 @@ pub fn ground<S: Source, K: Sink, D: Device>(
     ensures unasked { AsksForNone words.now → (result ≡ code_of Status.Usage) ⊎ (result ≡ code_of Status.NoMemory) }
 
     // What a command makes of the input is written, unless the input can't be read or memory is wanting.
-    ensures delivered { (c : AnyCommand) → AsksFor words.now c → ((result ≡ code_of Status.ReadFault) ⊎ (result ≡ code_of Status.NoMemory)) ⊎ Delivers c result (S.left source.old) (S.left source.new) (K.taken sink.old) (K.taken sink.new) }
+    ensures delivered { (q : AnyRequest) → AsksFor words.now q → ((result ≡ code_of Status.ReadFault) ⊎ (result ≡ code_of Status.NoMemory)) ⊎ Delivers q result (S.left source.old) (S.left source.new) (K.taken sink.old) (K.taken sink.new) }
     ensures silent { (result ≡ code_of Status.ReadFault) ⊎ (result ≡ code_of Status.NoMemory) → Keeps (K.taken sink.old) (K.taken sink.new) }
 
     // A fault is answered only where one was counted.

@@ -1,10 +1,9 @@
-use Rattle.std.proofs.Common.{◌≡◌, List, inl, inr, sym, ◌∙◌}
+use Rattle.std.proofs.Common.{inl, inr, sym, ◌∙◌}
 use Rattle.std.proofs.lemmas.Result.{IfOk-weaker}
 use Rattle.plan_text.specs.PlanSpelling.{IsPlanRefusal}
 use Rattle.commands.specs.declared.outcome.Outcome.{Outcome}
-use Rattle.commands.specs.declared.status.Status.TheVariants.{Refused}
 use Rattle.commands.specs.Inputs.{IsTold}
-use Rattle.commands.specs.Sims.{Runs, Sims, IsRunRefusal, unbuilt_line}
+use Rattle.commands.specs.Sims.{Runs, Flies, Sims, IsRunRefusal}
 use Rattle.commands.proofs.InputLemmas.{wider, told}
 use Rattle.commands.proofs.GivenLemmas.{ends_at, goes_on}
 use Rattle.commands.proofs.simulation.behind.Goals as goal
@@ -12,19 +11,21 @@ use Rattle.commands.proofs.simulation.behind.Goals as goal
 pub returns-then-used-count : goal.returns-then-used-count
 returns-then-used-count g c =
     let pieces = c.args.pieces.now in
+    let m = c.args.mission.now in
     let used = c.args.used in
+    let nodes = c.args.budget in
     let ends = ends_at pieces.bytes pieces.pieces used c.requires.cut (c.if-used-count.true ∙ c.count.ensures) in
-    IfOk-weaker c.unbuilt.result (λ (o : Outcome). (o.status ≡ Refused) × (o.text ≡ unbuilt_line)) (λ (o : Outcome). Sims pieces.bytes o.status o.text)
-    (λ o k. inr (k.0, inl (record { mission = c.args.mission.now; used = used; front = c.requires.front; ends = ends; line = k.1 })))
-    c.unbuilt.ensures
+    IfOk-weaker c.alone.result (λ (o : Outcome). Flies m nodes o.status o.text) (λ (o : Outcome). Sims nodes pieces.bytes o.status o.text)
+    (λ o k. inl (inr (record { mission = m; used = used; front = c.requires.front; ends = ends; flies = k })))
+    c.alone.ensures
 
 pub returns-in-Ok : goal.returns-in-Ok
 returns-in-Ok g c =
     let bytes = c.args.pieces.now.bytes in
     let m = c.args.mission.now in
     let es = c.in-Ok.plan.extensions in
-    IfOk-weaker c.run.result (λ (o : Outcome). Runs m es o.status o.text) (λ (o : Outcome). Sims bytes o.status o.text)
-    (λ o k. inl (record { mission = m; plan = es; given = record { used = c.args.used; mission = c.requires.front; plan = c.in-Ok.ensures }; runs = k }))
+    IfOk-weaker c.run.result (λ (o : Outcome). Runs m es o.status o.text) (λ (o : Outcome). Sims c.args.budget bytes o.status o.text)
+    (λ o k. inl (inl (record { mission = m; plan = es; given = record { used = c.args.used; mission = c.requires.front; plan = c.in-Ok.ensures }; runs = k })))
     c.run.ensures
 
 pub returns-in-Err : goal.returns-in-Err
@@ -36,6 +37,6 @@ returns-in-Err g c =
     let r = c.in-Err.refusal in
     let some = goes_on bytes pieces.pieces used c.requires.cut (λ e. c.if-used-count.false (e ∙ sym c.count.ensures)) in
     let due = wider (IsPlanRefusal m bytes used) (IsRunRefusal bytes) (λ q k. inr (record { behind = record { mission = m; used = used; front = c.requires.front; plan = k }; some = some })) r c.in-Err.ensures in
-    IfOk-weaker c.refused.result (λ (o : Outcome). IsTold r o.status o.text) (λ (o : Outcome). Sims bytes o.status o.text)
-    (λ o t. inr (t.refused, inr (told (IsRunRefusal bytes) r o.status o.text due t)))
+    IfOk-weaker c.refused.result (λ (o : Outcome). IsTold r o.status o.text) (λ (o : Outcome). Sims c.args.budget bytes o.status o.text)
+    (λ o t. inr (t.refused, told (IsRunRefusal bytes) r o.status o.text due t))
     c.refused.ensures

@@ -1,0 +1,55 @@
+-- What is told of the search of a first plan.
+use Rattle.std.proofs.Common.{◌≡◌, ℕ, List, [], refl, sym, subst, inl, inr}
+use Rattle.hs_base.specs.declared.mission.Mission.{Mission}
+use Rattle.hs_base.specs.declared.plan.Extension.{Extension}
+use Rattle.hs_base.specs.Checked.{Checked}
+use Rattle.hs_base.specs.LogText.{log_text}
+use Rattle.search_tree.specs.Tree.{Found, plan, no_plan, budget}
+use Rattle.search_laws.proofs.OneLemmas.{one_plan}
+use Rattle.plan_search.specs.declared.first.Unplanned.{Unplanned}
+use Rattle.plan_search.specs.declared.first.Unplanned.TheVariants.{NoPlan as NoneAtAll, Budget as NodesEnded, Memory as NoMemoryLeft}
+use Rattle.plan_search.specs.First.{FindsFirst, IsPlanned, IsUnplanned, outset}
+use Rattle.commands.specs.Inputs.{IsWhole}
+use Rattle.commands.specs.Plans.{Tells}
+use Rattle.commands.specs.Searches.{IsToldOf, Searches}
+use Rattle.commands.specs.Sims.{IsPlain, IsFlown, Sims}
+use Rattle.commands.specs.Untold.{IsToldWhy}
+use Rattle.commands.specs.declared.status.Status.{Status}
+use Rattle.commands.specs.declared.status.Status.TheVariants.{Done}
+use Rattle.commands.proofs.WholeLemmas.{whole_one, whole_or_refused, whole_in_front, whole_or_given, whole_or_run_refused}
+
+-- a plan that is found and told
+pub plan_told : (m : Mission) (nodes : ℕ) (head : List ℕ) (What : List Extension → List ℕ → Type 0) (es : List Extension) (status : Status) (text : List ℕ) → IsPlanned m nodes es → status ≡ Done → What es text → Searches m nodes head What status text
+plan_told m nodes head What es status text p done told = record {
+  found = plan p.extension;
+  finds = p.found;
+  told = (done, subst (λ (l : List Extension). Checked m l) p.is p.checked, subst (λ (l : List Extension). What l text) p.is told);
+}
+
+-- it is told why there is none
+pub none_told : (m : Mission) (nodes : ℕ) (head : List ℕ) (What : List Extension → List ℕ → Type 0) (why : Unplanned) (status : Status) (text : List ℕ) → IsUnplanned m nodes why → IsToldWhy why head status text → Searches m nodes head What status text
+none_told m nodes head What NoneAtAll status text u t = record { found = no_plan; finds = u; told = (t.told, t.line) }
+none_told m nodes head What (NodesEnded path) status text u t = record { found = budget path; finds = u; told = (t.told, t.line) }
+none_told m nodes head What NoMemoryLeft status text u t = absurd (t.some refl)
+
+-- what is told is told of what is found
+pub told_of_found : (m : Mission) (nodes : ℕ) (head : List ℕ) (What : List Extension → List ℕ → Type 0) (found : Found Extension) (status : Status) (text : List ℕ) → FindsFirst m nodes found → Searches m nodes head What status text → IsToldOf m head What found status text
+told_of_found m nodes head What found status text f s = subst (λ (x : Found Extension). IsToldOf m head What x status text) (one_plan m outset nodes s.found found s.finds f) s.told
+
+-- a command that searches tells what is found for an accepted mission
+pub searched : (What : Mission → List Extension → List ℕ → Type 0) (nodes : ℕ) (bytes text : List ℕ) (m : Mission) (found : Found Extension) (status : Status) → IsWhole bytes m → FindsFirst m nodes found → Tells What nodes bytes status text → IsToldOf m [] (What m) found status text
+searched What nodes bytes text m found status h f (inl s) =
+    let same = whole_one bytes s.mission m s.whole h in
+    told_of_found m nodes [] (What m) found status text f (subst (λ (x : Mission). Searches x nodes [] (What x) status text) same s.searches)
+searched What nodes bytes text m found status h f (inr r) = absurd (whole_or_refused bytes m r.1.refusal h r.1.why)
+
+-- a plain mission alone is flown by the plan that is found
+pub flown_alone : (nodes : ℕ) (bytes text : List ℕ) (m : Mission) (found : Found Extension) (status : Status) → IsWhole bytes m → IsPlain m → FindsFirst m nodes found → Sims nodes bytes status text → IsToldOf m (log_text m []) (IsFlown m) found status text
+flown_alone nodes bytes text m found status h p f (inl (inl r)) = absurd (whole_or_given bytes m r.mission r.plan h r.given)
+flown_alone nodes bytes text m found status h p f (inl (inr u)) =
+    let same = whole_in_front bytes m u.mission u.used h u.front in
+    elim u.flies [
+      | inl s ↦ told_of_found m nodes (log_text m []) (IsFlown m) found status text f (subst (λ (x : Mission). Searches x nodes (log_text x []) (IsFlown x) status text) (sym same) s.1)
+      | inr o ↦ absurd (o.0 (subst IsPlain same p))
+    ]
+flown_alone nodes bytes text m found status h p f (inr r) = absurd (whole_or_run_refused bytes m r.1.refusal h r.1.why)

@@ -1,0 +1,13 @@
+use Rattle.std.proofs.Common.{sym, subst}
+use Rattle.std.specs.Prelude.{IfOk}
+use Rattle.command_line.specs.declared.request.Command.{Command}
+use Rattle.commands.specs.declared.outcome.Outcome.{Outcome}
+use Rattle.exec_main.specs.Ground.{Makes}
+use Rattle.exec_main.proofs.BuiltLemmas.{only_sim}
+use Rattle.exec_main.proofs.top.answer.Goals as goal
+
+pub returns-in_default-clause-made : goal.returns-in_default-clause-made
+returns-in_default-clause-made g c =
+    let d = c.in_default in
+    let is = only_sim c.args.command c.requires d.not-Print d.not-Check d.not-Plan d.not-Net in
+    subst (λ (x : Command). IfOk c.sim.result (λ (o : Outcome). Makes x c.args.budget c.args.text.now o.status o.text)) (sym is) c.sim.ensures
