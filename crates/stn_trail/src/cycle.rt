@@ -1,4 +1,4 @@
-ghost use Rattle.std.specs.Prelude.{◌≡◌, ℕ, ◌<◌, length, pos, ◌<ℤ◌, IfOk, IfSome};
+ghost use Rattle.std.specs.Prelude.{◌≡◌, ℕ, ◌<◌, length, pos, ◌<ℤ◌, true, IfOk, IfSome};
 ghost use Rattle.stn_trail.specs.Rows.{IsIn, AreRows};
 ghost use Rattle.stn_trail.specs.Rounds.{cause_at, IsRound};
 
@@ -31,62 +31,56 @@ fn cause_of(rows: &[Row], causes: &[Cause], point: u32) -> Option<Bound>
     Some(row[place])
 }
 
-/// Which of two bounds the causes lead back from to their own start: the added bound, if its end
-/// hangs on its start, or the bound at which the raise met a point that stays.
-pub(crate) fn closing(rows: &[Row], causes: &[Cause], added: Bound, back: Bound) -> Bound
-    requires rows { AreRows rows.now }
-    requires added { IsIn rows.now added }
-    requires back { IsIn rows.now back }
-    ensures { IsIn rows.now result }
-{
-    if back.from.0 == added.to.0 {
-        return back;
-    }
-    let mut at = added.to.0;
-    'back: for _ in 0..rows.len() {
-        let Some(bound) = cause_of(rows, causes, at) else {
-            return back;
-        };
-        at = bound.to.0;
-        if at == added.from.0 {
-            return added;
-        }
-    }
-    back
-}
-
-/// Follows the causes from the end of a bound back to its start: a negative cycle, if they lead
-/// there.
+/// Follows the causes from the end of a bound back to its start, and answers whether the way is a
+/// negative cycle.
 pub(crate) fn trace(
-    alloc: Global,
     rows: &[Row],
     causes: &[Cause],
     first: Bound,
-) -> Result<Option<List<Bound>>, Memory>
+    way: &mut Vec<Bound>,
+) -> Result<bool, Memory>
     requires rows { AreRows rows.now }
     requires first { IsIn rows.now first }
-    ensures { IfOk result (λ found. IfSome found (IsRound rows.now)) }
+    ensures { IfOk result (λ closed. closed ≡ true → IsRound rows.now way.new.items) }
 {
-    let mut cycle = List::new(alloc);
-    cycle.push(first)?;
+    way.clear();
+    way.push(first)?;
     let mut total = first.most;
     let mut at = first.to.0;
     'back: for _ in 0..=rows.len() {
         if at == first.from.0 {
-            if total < 0 {
-                return Ok(Some(cycle));
-            }
-            return Ok(None);
+            return Ok(total < 0);
         }
         let Some(bound) = cause_of(rows, causes, at) else {
-            return Ok(None);
+            return Ok(false);
         };
         let Some(sum) = total.checked_add(bound.most) else {
-            return Ok(None);
+            return Ok(false);
         };
-        cycle.push(bound)?;
+        way.push(bound)?;
         total = sum;
         at = bound.to.0;
+    }
+    Ok(false)
+}
+
+/// The negative cycle along causes that is closed by the added bound, or by the bound at which the
+/// raise met a point that stays.
+pub(crate) fn closed(
+    alloc: Global,
+    rows: &[Row],
+    causes: &[Cause],
+    added: Bound,
+    back: Bound,
+    way: &mut Vec<Bound>,
+) -> Result<Option<List<Bound>>, Memory>
+    requires rows { AreRows rows.now }
+    requires added { IsIn rows.now added }
+    requires back { IsIn rows.now back }
+    ensures { IfOk result (λ found. IfSome found (IsRound rows.now)) }
+{
+    if trace(rows, causes, back, way)? || trace(rows, causes, added, way)? {
+        return Ok(Some(List::from_vec(Vec::from_slice(alloc, way)?)));
     }
     Ok(None)
 }

@@ -10,7 +10,7 @@ ghost use Rattle.stn_trail.specs.History.{parts_of};
 ghost use Rattle.stn_trail.specs.Moves.{KeepsPast};
 ghost use Rattle.stn_trail.specs.Rows.{row_at, AreRows, AreRowsOf};
 
-use crate::cycle::{closing, trace};
+use crate::cycle::closed;
 use crate::moves::Cause;
 use crate::part::Step;
 use crate::raised::Queue;
@@ -81,6 +81,7 @@ pub(crate) fn settle(
     bound: Bound,
     times: &mut Times,
     queue: &mut Queue,
+    way: &mut Vec<Bound>,
 ) -> Result<(), Broken>
     requires few { (1 ≤ points) × (points ≤ POINTS) }
     requires range { All (IsInRange points) (added (parts_of steps.now)) }
@@ -101,13 +102,10 @@ pub(crate) fn settle(
     let limit = rows.len().saturating_mul(steps.len()).saturating_add(1);
     match raise_last(rows, bound.to.0, limit, times, queue)? {
         Found::Kept => Ok(()),
-        Found::Back(back) => {
-            let first = closing(rows, &times.causes, bound, back);
-            match trace(alloc, rows, &times.causes, first)? {
-                Some(cycle) => Err(Broken::Cycle(cycle)),
-                None => solve_anew(alloc, points, steps, times),
-            }
-        }
+        Found::Back(back) => match closed(alloc, rows, &times.causes, bound, back, way)? {
+            Some(cycle) => Err(Broken::Cycle(cycle)),
+            None => solve_anew(alloc, points, steps, times),
+        },
         Found::Lost => solve_anew(alloc, points, steps, times),
     }
 }

@@ -30,6 +30,8 @@ pub struct Trail {
     rows: Vec<Row>,
     times: Times,
     queue: Queue,
+    /// The way along causes that was followed last.
+    way: Vec<Bound>,
 }
 
 impl Model for Trail {
@@ -92,6 +94,7 @@ impl Trail {
             rows: empty_rows(alloc, points)?,
             times: Times::new(alloc, points as usize)?,
             queue: VecDeque::new(alloc),
+            way: Vec::new(alloc),
         })
     }
 
@@ -146,6 +149,7 @@ impl Trail {
             bound,
             &mut self.times,
             &mut self.queue,
+            &mut self.way,
         );
         if let Err(broken) = settled {
             self.times.rewind(since);

@@ -8,8 +8,8 @@ pub back-preserved : goal.back-preserved
 back-preserved c =
     let b = c.in-Some.ensures in let w = c.back.invariant in
     let sum = c.in-Some-checked_add.ensures in
-    rw c.in_ok-push-2.ensures.ok (IsWay-more c.args.rows.now (cause_at c.args.rows.now c.args.causes.now) c.args.first c.back.cycle c.back.at _ c.in-Some.bound _ w c.if-at-first.false b.is b.start b.given (omega (arith, ints)))
+    rw c.in_ok-push-2.ensures.items (IsWay-more c.args.rows.now (cause_at c.args.rows.now c.args.causes.now) c.args.first c.back.way.items c.back.at _ c.in-Some.bound _ w c.if-at-first.false b.is b.start b.given (omega (arith, ints)))
 
-pub returns-then-total-lt0 : goal.returns-then-total-lt0
-returns-then-total-lt0 c =
-    IsRound-closed c.args.rows.now (cause_at c.args.rows.now c.args.causes.now) c.args.first c.back.cycle c.back.at _ c.back.invariant c.if-at-first.true (omega (arith, ints))
+pub returns-then-at-first : goal.returns-then-at-first
+returns-then-at-first c = λ e.
+    IsRound-closed c.args.rows.now (cause_at c.args.rows.now c.args.causes.now) c.args.first c.back.way.items c.back.at _ c.back.invariant c.if-at-first.true (omega (arith, ints))

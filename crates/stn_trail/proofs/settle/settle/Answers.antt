@@ -13,14 +13,11 @@ use Rattle.stn_trail.proofs.settle.settle.Goals as goal
 pub raise_last-requires-clause-rows : goal.raise_last-requires-clause-rows
 raise_last-requires-clause-rows c = AreRows-in_range c.args.points (added (parts_of c.args.steps.now)) c.args.rows.now c.requires.rows c.requires.range c.requires.room.0
 
-pub closing-first-requires-clause-rows : goal.closing-first-requires-clause-rows
-closing-first-requires-clause-rows c = AreRows-in_range c.args.points (added (parts_of c.args.steps.now)) c.args.rows.now c.requires.rows c.requires.range c.requires.room.0
+pub closed-requires-clause-rows : goal.closed-requires-clause-rows
+closed-requires-clause-rows c = AreRows-in_range c.args.points (added (parts_of c.args.steps.now)) c.args.rows.now c.requires.rows c.requires.range c.requires.room.0
 
-pub closing-first-requires-clause-added : goal.closing-first-requires-clause-added
-closing-first-requires-clause-added c = Contains-last (row_at c.args.rows.now c.args.bound.to.0) c.args.bound c.requires.last
-
-pub trace-requires-clause-rows : goal.trace-requires-clause-rows
-trace-requires-clause-rows c = AreRows-in_range c.args.points (added (parts_of c.args.steps.now)) c.args.rows.now c.requires.rows c.requires.range c.requires.room.0
+pub closed-requires-clause-added : goal.closed-requires-clause-added
+closed-requires-clause-added c = Contains-last (row_at c.args.rows.now c.args.bound.to.0) c.args.bound c.requires.last
 
 pub returns-in-Kept-clause-schedule : goal.returns-in-Kept-clause-schedule
 returns-in-Kept-clause-schedule c =
