@@ -1,5 +1,5 @@
-ghost use Rattle.std.specs.Prelude.{◌≡◌, ◌-◌, ◌<◌, ◌≤◌, [], ◌∷◌, length, drop, All, vec_len, pos, IfOk, IfErr, OnOk};
-ghost use Rattle.hs_base.specs.Schedule.{time_of, Meets, HasNoSchedule};
+ghost use Rattle.std.specs.Prelude.{◌≡◌, ◌-◌, ◌<◌, ◌≤◌, [], ◌∷◌, length, drop, All, vec_len, pos, true, IfOk, IfErr, OnOk};
+ghost use Rattle.hs_base.specs.Schedule.{time_of, Holds, Meets, HasNoSchedule};
 ghost use Rattle.stn_distance.specs.Ranges.{IsInRange};
 ghost use Rattle.hs_base.specs.Cycles.{IsNegativeCycle};
 ghost use Rattle.stn_distance.specs.Broken.{IfCycle};
@@ -72,6 +72,18 @@ fn anchor(rows: &[Row], bound: Bound, times: &mut Times) -> Result<(), Memory>
     Ok(())
 }
 
+/// Whether the times keep the bound as they are.
+fn is_kept(times: &Times, bound: Bound) -> bool
+    requires start { bound.from.0 < vec_len times.now.ticks }
+    requires end { bound.to.0 < vec_len times.now.ticks }
+    ensures { result ≡ true → Holds (time_of times.now.ticks.items) bound }
+{
+    match times.ticks[bound.to.0 as usize].checked_sub(bound.most) {
+        Some(due) => due <= times.ticks[bound.from.0 as usize],
+        None => false,
+    }
+}
+
 /// Moves times so that they keep the last bound as well as those before it, or says that none do.
 pub(crate) fn settle(
     alloc: Global,
@@ -98,6 +110,9 @@ pub(crate) fn settle(
     ensures past { KeepsPast (vec_len times.old.moves) times.old.moves.items times.old.ticks.items times.new.moves.items times.new.ticks.items }
 {
     anchor(rows, bound, times)?;
+    if is_kept(times, bound) {
+        return Ok(());
+    }
     // points that wait in turn come to rest within as many turns as there are points (Bellman 1958)
     let limit = rows.len().saturating_mul(steps.len()).saturating_add(1);
     match raise_last(rows, bound.to.0, limit, times, queue)? {
