@@ -61,6 +61,13 @@ bound_is_in rows point row place d e r l =
     let i = bound_in_row rows point row place d e l in
     subst (λ (v : ℕ). Contains (row_at rows v) (get_or row place d)) (sym (r.ends point (get_or row place d) i)) i
 
+-- its end is the point of the row
+pub bound_told : (rows : List (List Bound)) (point : ℕ) (row : List Bound) (place : ℕ) (d : Bound) → row ≡ row_at rows point → AreRows rows → place < length row
+    → (let b : Bound = record { from = (get_or row place d).from; to = record { 0 = point }; most = (get_or row place d).most } in b) ≡ get_or row place d
+bound_told rows point row place d e r l =
+    let b = get_or row place d in
+    ap (λ (v : ℕ). let c : Bound = record { from = b.from; to = record { 0 = v }; most = b.most } in c) (sym (r.ends point b (bound_in_row rows point row place d e l)))
+
 -- what is left from a place on, the bound at the place first
 left_is : (rows : List (List Bound)) (times : List ℤ) (queue : List Raised) (row : List Bound) (place : ℕ) (d : Bound) → place < length row
     → AreCovered rows times queue (drop place row) → AreCovered rows times queue (get_or row place d ∷ drop (place + 1) row)

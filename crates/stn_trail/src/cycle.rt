@@ -4,7 +4,7 @@ ghost use Rattle.stn_trail.specs.Rounds.{cause_at, IsRound};
 
 use crate::moves::Cause;
 use crate::row::Row;
-use hs_base::{Bound, List, Memory};
+use hs_base::{Bound, List, Memory, PointId};
 use std::alloc::Global;
 
 /// The bound that gave the point its time, if any did.
@@ -28,7 +28,10 @@ fn cause_of(rows: &[Row], causes: &[Cause], point: u32) -> Option<Bound>
     if place >= row.len() || row[place].from.0 != point {
         return None;
     }
-    Some(row[place])
+    let mut bound = row[place];
+    // as it is: so the next step need not wait for the row to tell it
+    bound.to = PointId(cause.to);
+    Some(bound)
 }
 
 /// Follows the causes from the end of a bound back to its start, and answers whether the way is a
