@@ -3,7 +3,7 @@ use Rattle.std.proofs.Common.{◌≡◌, ℕ, ℤ, zero, suc, ◌+◌, ◌<◌, 
 use Rattle.std.proofs.lemmas.Int.{ints}
 use Rattle.std.proofs.lemmas.Option.{get_or_from_slice_get, slice_get-get_or, slice_get_within}
 use Rattle.std.specs.List.{AllByRecursion}
-use Rattle.std.specs.Prelude.{◌-ℤ◌, ◌≤ℤ◌, int_lt}
+use Rattle.std.specs.Prelude.{◌&&◌, ◌+ℤ◌, ◌-ℤ◌, ◌≤ℤ◌, int_le, int_lt}
 use Rattle.hs_base.specs.Bounds.{on_some}
 use Rattle.hs_base.specs.Missions.{IsMission}
 use Rattle.hs_base.specs.Points.{value_of}
@@ -15,7 +15,6 @@ use Rattle.hs_base.specs.declared.mission.Value.{Value}
 use Rattle.hs_base.specs.declared.net.Bound.{Bound}
 use Rattle.hs_base.specs.declared.range.Range.{Range}
 use Rattle.base_laws.proofs.ListLemmas.{each_both}
-use Rattle.base_laws.proofs.MissionLemmas.{value_is}
 use Rattle.plan_laws.specs.Fit.{IsFit}
 use Rattle.search_tree.proofs.CellLemmas.{given_cell, held_is, length-map', slice_get-map_some}
 use Rattle.search_tree.proofs.RangeLemmas.{held_fit, part_fit}
@@ -32,13 +31,14 @@ use Rattle.stn_distance.specs.Ranges.{IsInRange}
 use Rattle.stn_trail.specs.Held.{points_of, Held as Trailed}
 use Rattle.timeline_db.proofs.DbLemmas.{points_shown}
 use Rattle.search_laws.proofs.GoodLemmas.{good_all, good_points, good_root}
+use Rattle.timeline_db.proofs.KeptLemmas.{lasts_range}
 use Rattle.timeline_db.proofs.PictureLemmas.{cells-row}
 use Rattle.timeline_db.proofs.StepLemmas.{line_shown, shown_of}
 use Rattle.timeline_db.proofs.TimeLemmas.{tick_whole}
 use Rattle.timeline_db.specs.Boards.{HasToken, line_at, token_of}
 use Rattle.timeline_db.specs.Databases.{IsDb, parts_of}
 use Rattle.search_laws.specs.Good.{IsGood}
-use Rattle.timeline_db.specs.Kept.{kept_bounds, kept_cell, lasting, start_from, tick_of}
+use Rattle.timeline_db.specs.Kept.{from_since, kept_bounds, kept_cell, lasting, lasting_within, start_from, tick_of, until_last}
 use Rattle.timeline_db.specs.Lines.{cell_of, nothing_held, row_of}
 use Rattle.timeline_db.specs.declared.board.Board.{Board}
 use Rattle.timeline_db.specs.declared.course.Step.{Step}
@@ -54,29 +54,31 @@ lasting_fit n x r start stop is = (record { from = stop; to = start; least = ome
     by true = (record { from = start; to = stop; least = omega (arith, ints, is.0, is.1, is.2); most = is.2 }, tt)
     by false = tt
 
+unless_fit : (n : ℕ) (b : Bool) (d : Bound) → IsFit n d → AllByRecursion (IsFit n) (cond b [] (d ∷ []))
+unless_fit n true d h = tt
+unless_fit n false d h = (h, tt)
+
+within_fit : (n : ℕ) (tick since : ℤ) (x : Held) (r : Range) → 0 < n → x.start < n → x.stop < n → InRange whole since → IsRange (pos 1) r → AllByRecursion (IsFit n) (lasting_within tick since x r)
+within_fit n tick since x r some start stop from is =
+    let least = from.0 in
+    let most = from.1 in
+    each_both (IsFit n) (lasting x r ++ until_last tick x r) (from_since since x r)
+    (each_both (IsFit n) (lasting x r) (until_last tick x r) (lasting_fit n x r start stop is)
+    (unless_fit n (int_lt r.high LAST && int_le (tick -ℤ pos 1 +ℤ r.high) LAST) (bound 0 x.stop LAST) (record { from = some; to = stop; least = omega (arith, ints); most = omega (arith, ints) })))
+    (unless_fit n (int_le since r.low) (bound x.stop 0 (neg_ℤ since)) (record { from = stop; to = some; least = omega (arith, ints); most = omega (arith, ints) }))
+
 cell_fit : (n : ℕ) (m : Mission) (tick since : ℤ) (x : ℕ) (c : Cell) (o : Option ℕ) → IsMission m → 0 < n → c.held.start < n → c.held.stop < n → x < n → ((y : ℕ) → o ≡ Some y → y < n) → pos 1 ≤ℤ tick → tick ≤ℤ pos 1000000 → InRange whole since
     → AllByRecursion (IsFit n) (kept_cell m tick since x c o)
 cell_fit n m tick since x c o mission some start stop before next low high from =
-    let least = from.0 in
-    let most = from.1 in
     let first = bound 0 c.held.start (tick -ℤ pos 1) ∷ [] in
     let link = cond c.joined [] (bound c.held.start x (pos 0) ∷ []) in
-    let third = bound 0 c.held.stop LAST ∷ [] in
-    let fourth = bound c.held.stop 0 (neg_ℤ since) ∷ [] in
-    let lengths = on_some (value_of m c.held.kind) (λ (v : Value). lasting c.held v.lasts) in
-    each_both (IsFit n) (first ++ link ++ third ++ fourth ++ lengths) (on_some o (λ y. bound y c.held.stop (pos 0) ∷ []))
-    (each_both (IsFit n) (first ++ link ++ third ++ fourth) lengths
-    (each_both (IsFit n) (first ++ link ++ third) fourth
-    (each_both (IsFit n) (first ++ link) third
-    (each_both (IsFit n) first link (record { from = some; to = start; least = omega (arith, ints); most = omega (arith, ints) }, tt) (by c.joined))
-    (record { from = some; to = stop; least = omega (arith, ints); most = omega (arith, ints) }, tt))
-    (record { from = stop; to = some; least = omega (arith, ints); most = omega (arith, ints) }, tt))
-    (on_each (IsFit n) (value_of m c.held.kind) (λ (v : Value). lasting c.held v.lasts) (λ v is. lasting_fit n c.held v.lasts start stop (value_is m c.held.kind v mission is).1.lasts)))
+    let lengths = on_some (value_of m c.held.kind) (λ (v : Value). lasting_within tick since c.held v.lasts) in
+    each_both (IsFit n) (first ++ link ++ lengths) (on_some o (λ y. bound y c.held.stop (pos 0) ∷ []))
+    (each_both (IsFit n) (first ++ link) lengths
+    (each_both (IsFit n) first link (record { from = some; to = start; least = omega (arith, ints); most = omega (arith, ints) }, tt)
+    (unless_fit n c.joined (bound c.held.start x (pos 0)) (record { from = start; to = before; least = omega (arith, ints); most = omega (arith, ints) })))
+    (on_each (IsFit n) (value_of m c.held.kind) (λ (v : Value). lasting_within tick since c.held v.lasts) (λ v is. within_fit n tick since c.held v.lasts some start stop from (lasts_range m c.held.kind v mission is))))
     (on_each (IsFit n) o (λ y. bound y c.held.stop (pos 0) ∷ []) (λ y is. (record { from = next y is; to = stop; least = omega (arith, ints); most = omega (arith, ints) }, tt)))
-  where
-    by : (b : Bool) → AllByRecursion (IsFit n) (cond b [] (bound c.held.start x (pos 0) ∷ []))
-    by true = tt
-    by false = (record { from = start; to = before; least = omega (arith, ints); most = omega (arith, ints) }, tt)
 
 -- the bounds that a part puts on the trail are between the points that are there with it
 module _ (m : Mission) (b : Begun) (may : MayBegin m b) (p : Partial) (good : IsGood m b p) where

@@ -1,24 +1,31 @@
 -- The bounds that a part puts on the trail have the same schedules as its own.
 use Rattle.std.proofs.Common.{◌≡◌, ℕ, ℤ, Bool, true, false, cond, List, [], ◌∷◌, ◌++◌, Option, None, Some, pos, negsuc, neg_ℤ, refl, sym, subst, arith}
 use Rattle.std.proofs.lemmas.Int.{ints}
-use Rattle.std.specs.Prelude.{◌-ℤ◌, ◌≤ℤ◌, int_lt, option_map}
+use Rattle.std.specs.Prelude.{◌&&◌, ◌+ℤ◌, ◌-ℤ◌, ◌≤ℤ◌, int_le, int_lt, option_map}
 use Rattle.hs_base.specs.Bounds.{apart, on_some}
+use Rattle.hs_base.specs.Missions.{IsMission}
 use Rattle.hs_base.specs.Points.{value_of}
-use Rattle.hs_base.specs.Ranges.{InRange, whole}
+use Rattle.hs_base.specs.Ranges.{InRange, IsRange, whole}
 use Rattle.hs_base.specs.Schedule.{Holds, Schedule, bound}
 use Rattle.hs_base.specs.declared.limits.TheConstants.{LAST}
+use Rattle.hs_base.specs.declared.mission.Kind.{Kind}
 use Rattle.hs_base.specs.declared.mission.Mission.{Mission}
 use Rattle.hs_base.specs.declared.mission.Value.{Value}
 use Rattle.hs_base.specs.declared.net.Bound.{Bound}
 use Rattle.hs_base.specs.declared.range.Range.{Range}
 use Rattle.base_laws.proofs.ListLemmas.{each_both, each_split}
+use Rattle.base_laws.proofs.MissionLemmas.{value_is}
 use Rattle.search_tree.proofs.PartLemmas.{All', Both}
 use Rattle.search_tree.specs.Begun.{Begun, newest}
 use Rattle.search_tree.specs.PartBounds.{cell_bounds, link}
 use Rattle.search_tree.specs.PartialBounds.{token_bounds}
 use Rattle.search_tree.specs.declared.held.Cell.{Cell}
 use Rattle.search_tree.specs.declared.held.Held.{Held}
-use Rattle.timeline_db.specs.Kept.{kept_cell, lasting}
+use Rattle.timeline_db.specs.Kept.{from_since, kept_cell, lasting, lasting_within, until_last}
+
+-- how long a value of a mission lasts is a range
+pub lasts_range : (m : Mission) (k : Kind) (v : Value) → IsMission m → value_of m k ≡ Some v → IsRange (pos 1) v.lasts
+lasts_range m k v h is = (value_is m k v h is).1.lasts
 
 -- what is known of the times around a new token
 pub record IsKnown (b : Begun) (t : Schedule) (tick : ℤ) (x : ℕ) : Type 0 where
@@ -45,6 +52,37 @@ lasting_tells t x r low high h = (top (int_lt r.high LAST) refl (h.1), (h.0, tt)
     top true e k = k.0
     top false e k = let more = not_less r.high e in omega (arith, ints)
 
+unless_met : (t : Schedule) (b : Bool) (d : Bound) → Holds t d → All' t (cond b [] (d ∷ []))
+unless_met t true d h = tt
+unless_met t false d h = (h, tt)
+
+within_keeps : (t : Schedule) (tick since : ℤ) (x : Held) (r : Range) → Holds t (bound 0 x.stop LAST) → Holds t (bound x.stop 0 (neg_ℤ since)) → All' t (apart x.stop x.start r) → All' t (lasting_within tick since x r)
+within_keeps t tick since x r last from h =
+    each_both (Holds t) (lasting x r ++ until_last tick x r) (from_since since x r)
+    (each_both (Holds t) (lasting x r) (until_last tick x r) (lasting_keeps t x r h) (unless_met t (int_lt r.high LAST && int_le (tick -ℤ pos 1 +ℤ r.high) LAST) (bound 0 x.stop LAST) last))
+    (unless_met t (int_le since r.low) (bound x.stop 0 (neg_ℤ since)) from)
+
+-- a token that starts within 0 and the tick keeps what its length implies
+within_tells : (t : Schedule) (tick since : ℤ) (x : Held) (r : Range) → t 0 ≡ pos 0 → pos 0 ≤ℤ t x.start → Holds t (bound 0 x.start (tick -ℤ pos 1)) → All' t (lasting_within tick since x r)
+    → Holds t (bound 0 x.stop LAST) × Holds t (bound x.stop 0 (neg_ℤ since)) × All' t (apart x.stop x.start r)
+within_tells t tick since x r origin low before h =
+    let s = each_split (Holds t) (lasting x r ++ until_last tick x r) (from_since since x r) h in
+    let l = each_split (Holds t) (lasting x r) (until_last tick x r) s.0 in
+    let last = until (int_lt r.high LAST) (int_le (tick -ℤ pos 1 +ℤ r.high) LAST) refl refl l.0.1 l.1 in
+    (last, from (int_le since r.low) refl l.0.0 s.1, lasting_tells t x r low (omega (arith, ints)) l.0)
+  where
+    fits : (y z : ℤ) → int_le y z ≡ true → y ≤ℤ z
+    fits y z e = grind (arith, ints)
+
+    until : (a b : Bool) → int_lt r.high LAST ≡ a → int_le (tick -ℤ pos 1 +ℤ r.high) LAST ≡ b → All' t (cond a (bound x.start x.stop r.high ∷ []) []) → All' t (cond (a && b) [] (bound 0 x.stop LAST ∷ [])) → Holds t (bound 0 x.stop LAST)
+    until true true e f l k = let most = l.0 in let less = fits (tick -ℤ pos 1 +ℤ r.high) LAST f in omega (arith, ints)
+    until true false e f l k = k.0
+    until false b e f l k = k.0
+
+    from : (b : Bool) → int_le since r.low ≡ b → Holds t (bound x.stop x.start (neg_ℤ r.low)) → All' t (cond b [] (bound x.stop 0 (neg_ℤ since) ∷ [])) → Holds t (bound x.stop 0 (neg_ℤ since))
+    from true e l k = let less = fits since r.low e in omega (arith, ints)
+    from false e l k = k.0
+
 next_both : (t : Schedule) (stop : ℕ) (o : Option Cell) → Both (All' t (on_some o (λ (d : Cell). bound d.held.start stop (pos 0) ∷ []))) (All' t (on_some (option_map (λ (c : Cell). c.held.start) o) (λ y. bound y stop (pos 0) ∷ [])))
 next_both t stop None = (λ h. h, λ h. h)
 next_both t stop (Some d) = (λ h. h, λ h. h)
@@ -57,7 +95,7 @@ module _ (m : Mission) (b : Begun) (t : Schedule) (tick : ℤ) (x : ℕ) (known 
   lengths = on_some (value_of m c.held.kind) (λ (v : Value). apart c.held.stop c.held.start v.lasts)
 
   abbrev kept_lengths : List Bound
-  kept_lengths = on_some (value_of m c.held.kind) (λ (v : Value). lasting c.held v.lasts)
+  kept_lengths = on_some (value_of m c.held.kind) (λ (v : Value). lasting_within tick b.since c.held v.lasts)
 
   abbrev behind : List Bound
   behind = on_some o (λ (d : Cell). bound d.held.start c.held.stop (pos 0) ∷ [])
@@ -99,33 +137,22 @@ module _ (m : Mission) (b : Begun) (t : Schedule) (tick : ℤ) (x : ℕ) (known 
   pub record KeptSplit : Type 0 where
     pub start_met : Holds t (bound 0 c.held.start (tick -ℤ pos 1))
     pub link_met : All' t kept_link
-    pub stop_met : Holds t (bound 0 c.held.stop LAST)
-    pub since_met : Holds t (bound c.held.stop 0 (neg_ℤ b.since))
     pub lengths_met : All' t kept_lengths
     pub behind_met : All' t kept_behind
 
   kept_split : All' t (kept_cell m tick b.since x c next) → KeptSplit
   kept_split h =
       let first = bound 0 c.held.start (tick -ℤ pos 1) ∷ [] in
-      let third = bound 0 c.held.stop LAST ∷ [] in
-      let fourth = bound c.held.stop 0 (neg_ℤ b.since) ∷ [] in
-      let s1 = each_split (Holds t) (first ++ kept_link ++ third ++ fourth ++ kept_lengths) kept_behind h in
-      let s2 = each_split (Holds t) (first ++ kept_link ++ third ++ fourth) kept_lengths s1.0 in
-      let s3 = each_split (Holds t) (first ++ kept_link ++ third) fourth s2.0 in
-      let s4 = each_split (Holds t) (first ++ kept_link) third s3.0 in
-      let s5 = each_split (Holds t) first kept_link s4.0 in
-      record { start_met = s5.0.0; link_met = s5.1; stop_met = s4.1.0; since_met = s3.1.0; lengths_met = s2.1; behind_met = s1.1 }
+      let a = each_split (Holds t) (first ++ kept_link ++ kept_lengths) kept_behind h in
+      let l = each_split (Holds t) (first ++ kept_link) kept_lengths a.0 in
+      let s = each_split (Holds t) first kept_link l.0 in
+      record { start_met = s.0.0; link_met = s.1; lengths_met = l.1; behind_met = a.1 }
 
   kept_join : KeptSplit → All' t (kept_cell m tick b.since x c next)
   kept_join s =
       let first = bound 0 c.held.start (tick -ℤ pos 1) ∷ [] in
-      let third = bound 0 c.held.stop LAST ∷ [] in
-      let fourth = bound c.held.stop 0 (neg_ℤ b.since) ∷ [] in
-      each_both (Holds t) (first ++ kept_link ++ third ++ fourth ++ kept_lengths) kept_behind
-      (each_both (Holds t) (first ++ kept_link ++ third ++ fourth) kept_lengths
-      (each_both (Holds t) (first ++ kept_link ++ third) fourth
-      (each_both (Holds t) (first ++ kept_link) third
-      (each_both (Holds t) first kept_link (s.start_met, tt) s.link_met) (s.stop_met, tt)) (s.since_met, tt)) s.lengths_met) s.behind_met
+      each_both (Holds t) (first ++ kept_link ++ kept_lengths) kept_behind
+      (each_both (Holds t) (first ++ kept_link) kept_lengths (each_both (Holds t) first kept_link (s.start_met, tt) s.link_met) s.lengths_met) s.behind_met
 
   cell_keeps : (All' t (link x c) → All' t kept_link) → All' t (cell_bounds m b x c o) → All' t (kept_cell m tick b.since x c next)
   cell_keeps links h =
@@ -136,9 +163,7 @@ module _ (m : Mission) (b : Begun) (t : Schedule) (tick : ℤ) (x : ℕ) (known 
       kept_join (record {
         start_met = omega (arith, ints);
         link_met = links s.link_met;
-        stop_met = s.ends_met.1.1.0;
-        since_met = s.edges_met.1.0;
-        lengths_met = subst (λ (w : Option Value). All' t (on_some w (λ (v : Value). lasting c.held v.lasts))) (sym is) (lasting_keeps t c.held v.lasts (subst (λ (w : Option Value). All' t (on_some w (λ (v : Value). apart c.held.stop c.held.start v.lasts))) is s.lengths_met));
+        lengths_met = subst (λ (w : Option Value). All' t (on_some w (λ (v : Value). lasting_within tick b.since c.held v.lasts))) (sym is) (within_keeps t tick b.since c.held v.lasts s.ends_met.1.1.0 s.edges_met.1.0 (subst (λ (w : Option Value). All' t (on_some w (λ (v : Value). apart c.held.stop c.held.start v.lasts))) is s.lengths_met));
         behind_met = (next_both t c.held.stop o).0 s.behind_met;
       })
 
@@ -152,11 +177,12 @@ module _ (m : Mission) (b : Begun) (t : Schedule) (tick : ℤ) (x : ℕ) (known 
       let since_low = known.since.0 in
       let low : pos 0 ≤ℤ t c.held.start = starts s.link_met in
       let before = s.start_met in
-      let last = s.stop_met in
-      let from = s.since_met in
+      let lasts = within_tells t tick b.since c.held v.lasts origin low before (subst (λ (w : Option Value). All' t (on_some w (λ (v : Value). lasting_within tick b.since c.held v.lasts))) is s.lengths_met) in
+      let last = lasts.0 in
+      let from = lasts.1 in
       join (record {
         ends_met = (omega (arith, ints), (omega (arith, ints), (omega (arith, ints), (omega (arith, ints), tt))));
-        lengths_met = subst (λ (w : Option Value). All' t (on_some w (λ (v : Value). apart c.held.stop c.held.start v.lasts))) (sym is) (lasting_tells t c.held v.lasts low (omega (arith, ints)) (subst (λ (w : Option Value). All' t (on_some w (λ (v : Value). lasting c.held v.lasts))) is s.lengths_met));
+        lengths_met = subst (λ (w : Option Value). All' t (on_some w (λ (v : Value). apart c.held.stop c.held.start v.lasts))) (sym is) lasts.2;
         edges_met = (omega (arith, ints), (from, tt));
         link_met = links s.link_met;
         behind_met = (next_both t c.held.stop o).1 s.behind_met;

@@ -1,5 +1,5 @@
 -- The bounds that a part puts on the trail: those of its definition, without what others imply.
-use Rattle.std.specs.Prelude.{ℕ, ℤ, pos, neg_ℤ, ◌-ℤ◌, ◌+ℤ◌, suc, cond, int_lt, List, [], ◌∷◌, ◌++◌, Option, length, option_map, unwrap_or, slice_get}
+use Rattle.std.specs.Prelude.{ℕ, ℤ, pos, neg_ℤ, ◌-ℤ◌, ◌+ℤ◌, suc, cond, ◌&&◌, int_le, int_lt, List, [], ◌∷◌, ◌++◌, Option, length, option_map, unwrap_or, slice_get}
 use Rattle.hs_base.specs.Bounds.{apart, on_some, together, goals_of}
 use Rattle.hs_base.specs.Points.{value_of}
 use Rattle.hs_base.specs.Schedule.{bound}
@@ -27,12 +27,24 @@ tick_of m b = unwrap_or (option_map (λ (h : Horizon). h.tick) (slice_get m.hori
 abbrev pub lasting : Held → Range → List Bound
 lasting x r = bound x.stop x.start (neg_ℤ r.low) ∷ cond (int_lt r.high LAST) (bound x.start x.stop r.high ∷ []) []
 
--- a new token behind the point x starts before the horizon and ends within `since` and LAST, and a gap ends no
--- earlier than it begins
+-- a token that starts before the tick ends by LAST: its length may imply that
+abbrev pub until_last : ℤ → Held → Range → List Bound
+until_last tick x r = cond (int_lt r.high LAST && int_le (tick -ℤ pos 1 +ℤ r.high) LAST) [] (bound 0 x.stop LAST ∷ [])
+
+-- a token ends at `since` or later: its length may imply that
+abbrev pub from_since : ℤ → Held → Range → List Bound
+from_since since x r = cond (int_le since r.low) [] (bound x.stop 0 (neg_ℤ since) ∷ [])
+
+-- a token that starts before the tick lasts as long as its value may, and ends within `since` and LAST
+abbrev pub lasting_within : ℤ → ℤ → Held → Range → List Bound
+lasting_within tick since x r = lasting x r ++ until_last tick x r ++ from_since since x r
+
+-- a new token behind the point x starts before the horizon, lasts as long as its value may and ends within `since`
+-- and LAST, and a gap ends no earlier than it begins
 abbrev pub kept_cell : Mission → ℤ → ℤ → ℕ → Cell → Option ℕ → List Bound
 kept_cell m tick since x c next =
-    (bound 0 c.held.start (tick -ℤ pos 1) ∷ []) ++ cond c.joined [] (bound c.held.start x (pos 0) ∷ []) ++ (bound 0 c.held.stop LAST ∷ []) ++ (bound c.held.stop 0 (neg_ℤ since) ∷ [])
-    ++ on_some (value_of m c.held.kind) (λ (v : Value). lasting c.held v.lasts) ++ on_some next (λ y. bound y c.held.stop (pos 0) ∷ [])
+    (bound 0 c.held.start (tick -ℤ pos 1) ∷ []) ++ cond c.joined [] (bound c.held.start x (pos 0) ∷ [])
+    ++ on_some (value_of m c.held.kind) (λ (v : Value). lasting_within tick since c.held v.lasts) ++ on_some next (λ y. bound y c.held.stop (pos 0) ∷ [])
 
 -- a goal's token starts and stops in the goal's ranges
 abbrev pub goal_kept : Goal → Held → List Bound

@@ -2,10 +2,10 @@ ghost use Rattle.std.specs.Prelude.{◌≡◌, ℕ, ℤ, ◌≤ℤ◌, ◌<ℤ�
 ghost use Rattle.hs_base.specs.Bounds.{apart, exactly, on_some, relation_bounds, together};
 ghost use Rattle.hs_base.specs.Missions.{HasRanges, IsMission};
 ghost use Rattle.hs_base.specs.Points.{value_of};
-ghost use Rattle.hs_base.specs.Ranges.{InRange, whole};
+ghost use Rattle.hs_base.specs.Ranges.{InRange, IsRange, whole};
 ghost use Rattle.hs_base.specs.Schedule.{bound};
 ghost use Rattle.search_tree.specs.PartialBounds.{backing_bounds};
-ghost use Rattle.timeline_db.specs.Kept.{goal_kept, kept_cell, lasting};
+ghost use Rattle.timeline_db.specs.Kept.{from_since, goal_kept, kept_cell, lasting, lasting_within, until_last};
 
 use crate::lookups::{choice_at, need_at, value_at};
 use hs_base::{Bound, Goal, LAST, Memory, Mission, PointId, Range, Relation};
@@ -155,14 +155,66 @@ fn push_link(made: &mut Vec<Bound>, cell: Cell, before: u32) -> Result<(), Memor
     push_behind(made, cell.held.start, before)
 }
 
-/// A token lasts as long as its value may.
-#[tactic(auto, using(base_laws::proofs::MissionLemmas::lasts_low))]
-fn push_length(made: &mut Vec<Bound>, mission: &Mission, held: Held) -> Result<(), Memory>
-    requires { IsMission mission.now }
-    ensures { OnOk result (made.new.items ≡ made.old.items ++ on_some (value_of mission.now held.kind) (λ v. lasting held v.lasts)) }
+/// A token that starts before the tick ends by LAST, which is left out where its length implies it.
+fn push_until_last(made: &mut Vec<Bound>, tick: i64, held: Held, lasts: Range) -> Result<(), Memory>
+    requires tick { InRange whole tick }
+    requires lasts { IsRange (pos 1) lasts }
+    ensures { OnOk result (made.new.items ≡ made.old.items ++ until_last tick held lasts) }
+{
+    if lasts.high < LAST && tick - 1 + lasts.high <= LAST {
+        return Ok(());
+    }
+    push_until(made, held.stop, LAST)
+}
+
+/// A token ends at `since` or later, which is left out where its length implies it.
+fn push_from_since(
+    made: &mut Vec<Bound>,
+    since: i64,
+    held: Held,
+    lasts: Range,
+) -> Result<(), Memory>
+    requires { InRange whole since }
+    ensures { OnOk result (made.new.items ≡ made.old.items ++ from_since since held lasts) }
+{
+    if since <= lasts.low {
+        return Ok(());
+    }
+    push_from(made, held.stop, since)
+}
+
+/// A token of a value that lasts so long.
+fn push_within(
+    made: &mut Vec<Bound>,
+    outlook: Outlook,
+    held: Held,
+    lasts: Range,
+) -> Result<(), Memory>
+    requires tick { InRange whole outlook.tick }
+    requires since { InRange whole outlook.since }
+    requires lasts { IsRange (pos 1) lasts }
+    ensures { OnOk result (made.new.items ≡ made.old.items ++ lasting_within outlook.tick outlook.since held lasts) }
+{
+    push_lasts(made, held, lasts)?;
+    push_until_last(made, outlook.tick, held, lasts)?;
+    push_from_since(made, outlook.since, held, lasts)
+}
+
+/// A token lasts as long as its value may, and ends within `since` and LAST.
+#[tactic(auto, using(crate::proofs::KeptLemmas::lasts_range))]
+fn push_length(
+    made: &mut Vec<Bound>,
+    mission: &Mission,
+    outlook: Outlook,
+    held: Held,
+) -> Result<(), Memory>
+    requires mission { IsMission mission.now }
+    requires tick { InRange whole outlook.tick }
+    requires since { InRange whole outlook.since }
+    ensures { OnOk result (made.new.items ≡ made.old.items ++ on_some (value_of mission.now held.kind) (λ v. lasting_within outlook.tick outlook.since held v.lasts)) }
 {
     match value_at(mission, held.kind) {
-        Some(value) => push_lasts(made, held, value.lasts),
+        Some(value) => push_within(made, outlook, held, value.lasts),
         None => Ok(()),
     }
 }
@@ -194,8 +246,6 @@ pub(crate) fn push_cell(
 {
     push_until(made, cell.held.start, outlook.tick - 1)?;
     push_link(made, cell, before)?;
-    push_until(made, cell.held.stop, LAST)?;
-    push_from(made, cell.held.stop, outlook.since)?;
-    push_length(made, mission, cell.held)?;
+    push_length(made, mission, outlook, cell.held)?;
     push_next(made, cell.held.stop, next)
 }
