@@ -9,5 +9,5 @@ mod tests;
 
 pub use applying::apply;
 pub use flaw::first_flaw;
-pub use listing::resolvers;
+pub use listing::{resolvers, resolvers_in};
 pub use search_tree::{Flaw, Resolver};

@@ -1,4 +1,4 @@
-ghost use Rattle.std.specs.Prelude.{◌≡◌, ◌++◌, ◌<◌, ◌^◌, false, true, flat_map, length, map, nat_eq, IfOk, OnOk};
+ghost use Rattle.std.specs.Prelude.{◌≡◌, [], ◌++◌, ◌<◌, ◌^◌, false, true, flat_map, length, map, nat_eq, IfOk, OnOk};
 ghost use Rattle.std.specs.List.{AllByRecursion, list_any};
 ghost use Rattle.hs_base.specs.declared.ids.ValId.{ValId};
 ghost use Rattle.hs_base.specs.Needs.{is_deferrable, may_wait};
@@ -265,14 +265,31 @@ fn push_for(list: &mut List<Resolver>, db: &Db, flaw: Flaw) -> Result<(), Memory
     }
 }
 
+/// The list without its items, in the room that it has.
+fn emptied(list: List<Resolver>) -> List<Resolver>
+    ensures { result ≡ [] }
+{
+    let mut items = list.into_vec();
+    items.clear();
+    List::from_vec(items)
+}
+
+/// The ways to resolve the first flaw, in their order, in the room of a list that is given.
+pub fn resolvers_in(room: List<Resolver>, db: &Db, flaw: Flaw) -> Result<List<Resolver>, Memory>
+    requires { IsHead (flaws db.now.mission db.now.begun (partial_of db.now)) flaw }
+    ensures { IfOk result (λ list. list ≡ resolvers db.now.mission db.now.begun (partial_of db.now) flaw) }
+{
+    let mut list = emptied(room);
+    if db.is_within() {
+        push_for(&mut list, db, flaw)?;
+    }
+    Ok(list)
+}
+
 /// The ways to resolve the first flaw, in their order.
 pub fn resolvers(alloc: Global, db: &Db, flaw: Flaw) -> Result<List<Resolver>, Memory>
     requires { IsHead (flaws db.now.mission db.now.begun (partial_of db.now)) flaw }
     ensures { IfOk result (λ list. list ≡ resolvers db.now.mission db.now.begun (partial_of db.now) flaw) }
 {
-    let mut list = List::new(alloc);
-    if db.is_within() {
-        push_for(&mut list, db, flaw)?;
-    }
-    Ok(list)
+    resolvers_in(List::new(alloc), db, flaw)
 }

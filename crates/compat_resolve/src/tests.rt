@@ -50,12 +50,14 @@ fn walk(alloc: Global, db: &mut Db, path: &[usize]) -> Result<bool, Memory> {
     Ok(true)
 }
 
-/// Whether that is the first flaw, and these are its ways, in their order.
+/// Whether that is the first flaw, and these are its ways, in their order, also in the room of a
+/// list that has them.
 fn is_first(alloc: Global, db: &Db, flaw: Flaw, ways: &[Resolver]) -> Result<bool, Memory> {
-    match first_flaw(db) {
-        Some(first) => Ok(first == flaw && resolvers(alloc, db, first)?.as_slice() == ways),
-        None => Ok(false),
-    }
+    let Some(first) = first_flaw(db) else {
+        return Ok(false);
+    };
+    let room = resolvers(alloc, db, first)?;
+    Ok(first == flaw && resolvers_in(room, db, first)?.as_slice() == ways)
 }
 
 /// Whether they are behind that path.

@@ -14,7 +14,7 @@ ghost use Rattle.timeline_db.specs.Plannings.{IsOpen, partial_of};
 
 use crate::filter::{AllPlans, Filter};
 use crate::found::Found;
-use crate::frames::{Frame, path_of};
+use crate::frames::{Frame, Frames, path_of};
 use crate::steps::Steps;
 use crate::visiting::{Visited, visit};
 use compat_resolve::apply;
@@ -58,21 +58,21 @@ fn enter<F: Filter>(
     alloc: Global,
     base: &CheckedPlan,
     db: &Db,
-    frames: &mut Vec<Frame>,
+    frames: &mut Frames,
     filter: &mut F,
     taken: u64,
 ) -> Result<Option<Extension>, Memory>
     requires mission { base.now.mission ≡ db.now.mission }
     requires plan { base.now.plan.extensions ≡ db.now.begun.base }
     requires ahead { IsOpen db.now }
-    requires reached { Reaches (F.test filter.old) db.now.mission db.now.begun db.now.parts frames.old.items (record { path = path_to frames.old.items; plan = partial_of db.now }) taken }
-    ensures more { IfOk result (λ o. IfNone o (IsSearched (F.test filter.old) db.now.mission db.now.begun db.now.parts frames.new.items (taken + 1))) }
+    requires reached { Reaches (F.test filter.old) db.now.mission db.now.begun db.now.parts frames.old (record { path = path_to frames.old; plan = partial_of db.now }) taken }
+    ensures more { IfOk result (λ o. IfNone o (IsSearched (F.test filter.old) db.now.mission db.now.begun db.now.parts frames.new (taken + 1))) }
     ensures found { IfOk result (λ o. IfSome o (λ e. (limit : ℕ) → taken < limit → FindsWhere (F.test filter.old) db.now.mission db.now.begun limit (plan e))) }
-    ensures few { OnOk result (length frames.new.items ≤ length frames.old.items + 1) }
+    ensures few { OnOk result (length frames.new ≤ length frames.old + 1) }
     ensures same { filter.new ≡ filter.old }
 {
     db.was_allowed();
-    match visit(alloc, base, db, filter)? {
+    match visit(alloc, base, db, frames, filter)? {
         Visited::Inner(frame) => {
             frames.push(frame)?;
             Ok(None)
@@ -88,7 +88,7 @@ fn take_child<F: Filter>(
     alloc: Global,
     base: &CheckedPlan,
     db: &mut Db,
-    frames: &mut Vec<Frame>,
+    frames: &mut Frames,
     frame: Frame,
     filter: &mut F,
     taken: u64,
@@ -96,12 +96,12 @@ fn take_child<F: Filter>(
     requires mission { base.now.mission ≡ db.old.mission }
     requires plan { base.now.plan.extensions ≡ db.old.begun.base }
     requires next { frame.next < length frame.resolvers }
-    requires searched { IsSearched (F.test filter.old) db.old.mission db.old.begun db.old.parts (frames.old.items ++ frame ∷ []) taken }
+    requires searched { IsSearched (F.test filter.old) db.old.mission db.old.begun db.old.parts (frames.old ++ frame ∷ []) taken }
     ensures mission { OnOk result (db.new.mission ≡ db.old.mission) }
     ensures begun { OnOk result (db.new.begun ≡ db.old.begun) }
-    ensures more { IfOk result (λ o. IfNone o (IsSearched (F.test filter.old) db.old.mission db.old.begun db.new.parts frames.new.items (taken + 1))) }
+    ensures more { IfOk result (λ o. IfNone o (IsSearched (F.test filter.old) db.old.mission db.old.begun db.new.parts frames.new (taken + 1))) }
     ensures found { IfOk result (λ o. IfSome o (λ e. (limit : ℕ) → taken < limit → FindsWhere (F.test filter.old) db.old.mission db.old.begun limit (plan e))) }
-    ensures few { OnOk result (length frames.new.items ≤ length frames.old.items + 2) }
+    ensures few { OnOk result (length frames.new ≤ length frames.old + 2) }
     ensures same { filter.new ≡ filter.old }
 {
     let child = frame.next;
@@ -121,14 +121,14 @@ fn search_below<F: Filter, L: Ledger>(
     alloc: Global,
     base: &CheckedPlan,
     db: &mut Db,
-    frames: &mut Vec<Frame>,
+    frames: &mut Frames,
     filter: &mut F,
     budget: u64,
     steps: &mut Steps<L>,
 ) -> Result<Found, Memory>
     requires mission { base.now.mission ≡ db.old.mission }
     requires plan { base.now.plan.extensions ≡ db.old.begun.base }
-    requires searched { IsSearched (F.test filter.old) db.old.mission db.old.begun db.old.parts frames.old.items 1 }
+    requires searched { IsSearched (F.test filter.old) db.old.mission db.old.begun db.old.parts frames.old 1 }
     requires some { 0 < budget }
     ensures found { IfOk result (λ f. FindsWhere (F.test filter.old) db.old.mission db.old.begun budget (told f)) }
     ensures steps { steps.new + 1 ≤ steps.old + budget }
@@ -139,7 +139,7 @@ fn search_below<F: Filter, L: Ledger>(
         if frame.next < frame.resolvers.len() {
             if taken == budget {
                 db.was_allowed();
-                return Ok(Found::Budget(path_of(alloc, frames, frame.next)?));
+                return Ok(Found::Budget(path_of(alloc, frames.as_slice(), frame.next)?));
             }
             steps.tick();
             let child = take_child(alloc, base, db, frames, frame, filter, taken)?;
@@ -147,6 +147,8 @@ fn search_below<F: Filter, L: Ledger>(
                 return Ok(Found::Plan(extension));
             }
             taken += 1;
+        } else {
+            frames.keep(frame.resolvers);
         }
     }
     Ok(Found::NoPlan)
@@ -170,7 +172,7 @@ pub fn search_where<F: Filter, L: Ledger>(
         return Ok(Found::Budget(List::new(alloc)));
     }
     let mut db = Db::begin(alloc, snapshot)?;
-    let mut frames = Vec::new(alloc);
+    let mut frames = Frames::new(alloc);
     steps.tick();
     match enter(alloc, &snapshot.plan, &db, &mut frames, filter, 0)? {
         Some(extension) => Ok(Found::Plan(extension)),

@@ -6,8 +6,8 @@ ghost use Rattle.timeline_db.specs.Plannings.{partial_of};
 ghost use Rattle.plan_search.specs.Visits.{IsVisited};
 
 use crate::filter::Filter;
-use crate::frames::Frame;
-use compat_resolve::{first_flaw, resolvers};
+use crate::frames::{Frame, Frames};
+use compat_resolve::{first_flaw, resolvers_in};
 use hs_base::{Extension, Fault, Memory};
 use plan_check::{CheckedPlan, check};
 use std::alloc::Global;
@@ -56,17 +56,19 @@ fn is_taken<F: Filter>(
     filter.takes(alloc, &joined)
 }
 
-/// Visits the node that the partial plan is.
+/// Visits the node that the partial plan is, in the room that the frames have for it.
 pub(crate) fn visit<F: Filter>(
     alloc: Global,
     base: &CheckedPlan,
     db: &Db,
+    frames: &mut Frames,
     filter: &mut F,
 ) -> Result<Visited, Memory>
     requires mission { base.now.mission ≡ db.now.mission }
     requires plan { base.now.plan.extensions ≡ db.now.begun.base }
     requires checked { flaws db.now.mission db.now.begun (partial_of db.now) ≡ [] → Checked db.now.mission (joined db.now.begun.base (extension db.now.mission db.now.begun (partial_of db.now))) }
     ensures visited { IfOk result (λ v. IsVisited (F.test filter.old) db.now v) }
+    ensures frames { frames.new ≡ frames.old }
     ensures same { filter.new ≡ filter.old }
 {
     let Some(flaw) = first_flaw(db) else {
@@ -78,7 +80,7 @@ pub(crate) fn visit<F: Filter>(
     };
     Ok(Visited::Inner(Frame {
         flaw,
-        resolvers: resolvers(alloc, db, flaw)?,
+        resolvers: resolvers_in(frames.room(alloc), db, flaw)?,
         next: 0,
         mark: db.mark(),
     }))

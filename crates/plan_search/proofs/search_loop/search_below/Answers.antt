@@ -8,24 +8,24 @@ use Rattle.search_tree.specs.Search.{FindsWhere}
 use Rattle.search_tree.specs.Tree.{plan}
 use Rattle.plan_search.proofs.SearchLemmas.{searched_back}
 use Rattle.plan_search.proofs.TurnLemmas.{below_budget, ends_here, path_fits}
-use Rattle.plan_search.specs.Searched.{path_to}
+use Rattle.plan_search.specs.Searched.{IsSearched, path_to}
 use Rattle.plan_search.specs.declared.frames.Frame.{Frame}
 use Rattle.plan_search.proofs.search_loop.search_below.Goals as goal
 
 pub path_of-requires-clause-taken : goal.path_of-requires-clause-taken
 path_of-requires-clause-taken g c =
     let i = c.nodes.invariant in
-    subst (AllByRecursion (λ (f : Frame). (0 < f.next) × (f.next < 2 ^ 32))) (sym c.deref.ensures.value) (path_fits (g.F.Filter.test c.args.filter.now) c.nodes.db c.args.db.now.mission c.args.db.now.begun c.nodes.frames.items c.pop.new.self.items c.in-Some.frame c.nodes.taken i.mission i.begun c.was_allowed.ensures.begins c.was_allowed.ensures.allowed i.searched c.in-Some.ensures.items).0
+    subst (AllByRecursion (λ (f : Frame). (0 < f.next) × (f.next < 2 ^ 32))) (sym c.as_slice.ensures) (path_fits (g.F.Filter.test c.args.filter.now) c.nodes.db c.args.db.now.mission c.args.db.now.begun c.nodes.frames c.pop.new.self c.in-Some.frame c.nodes.taken i.mission i.begun c.was_allowed.ensures.begins c.was_allowed.ensures.allowed i.searched c.in-Some.ensures.some).0
 
 pub path_of-requires-clause-child : goal.path_of-requires-clause-child
 path_of-requires-clause-child g c =
     let i = c.nodes.invariant in
-    let few = (path_fits (g.F.Filter.test c.args.filter.now) c.nodes.db c.args.db.now.mission c.args.db.now.begun c.nodes.frames.items c.pop.new.self.items c.in-Some.frame c.nodes.taken i.mission i.begun c.was_allowed.ensures.begins c.was_allowed.ensures.allowed i.searched c.in-Some.ensures.items).1 in
+    let few = (path_fits (g.F.Filter.test c.args.filter.now) c.nodes.db c.args.db.now.mission c.args.db.now.begun c.nodes.frames c.pop.new.self c.in-Some.frame c.nodes.taken i.mission i.begun c.was_allowed.ensures.begins c.was_allowed.ensures.allowed i.searched c.in-Some.ensures.some).1 in
     omega (arith, few, c.if-frame-len.true, c.len.ensures)
 
 pub returns-then-taken-budget-clause-found : goal.returns-then-taken-budget-clause-found
 returns-then-taken-budget-clause-found g c =
-    ends_here (g.F.Filter.test c.args.filter.now) c.args.db.now.mission c.args.db.now.begun c.nodes.db.parts c.nodes.frames.items c.pop.new.self.items c.in-Some.frame c.in_ok-path_of.field-0 c.nodes.taken c.args.budget c.nodes.invariant.searched c.in-Some.ensures.items (omega (arith, c.if-frame-len.true, c.len.ensures)) (c.in_ok-path_of.ensures ∙ ap (λ (l : List Frame). path_to l ++ c.in-Some.frame.next ∷ []) c.deref.ensures.value) c.if-taken-budget.true
+    ends_here (g.F.Filter.test c.args.filter.now) c.args.db.now.mission c.args.db.now.begun c.nodes.db.parts c.nodes.frames c.pop.new.self c.in-Some.frame c.in_ok-path_of.field-0 c.nodes.taken c.args.budget c.nodes.invariant.searched c.in-Some.ensures.some (omega (arith, c.if-frame-len.true, c.len.ensures)) (c.in_ok-path_of.ensures ∙ ap (λ (l : List Frame). path_to l ++ c.in-Some.frame.next ∷ []) c.as_slice.ensures) c.if-taken-budget.true
 
 pub returns-in-Some-child-clause-found : goal.returns-in-Some-child-clause-found
 returns-in-Some-child-clause-found g c =
@@ -44,7 +44,8 @@ nodes-preserved g c =
       mission = i.mission;
       begun = i.begun;
       same = i.same;
-      searched = searched_back c.args.db.now.mission c.args.db.now.begun (g.F.Filter.test c.args.filter.now) c.nodes.db.parts c.nodes.frames.items c.pop.new.self.items c.in-Some.frame c.nodes.taken i.searched c.in-Some.ensures.items (omega (arith, c.if-frame-len.false, c.len.ensures));
+      searched = subst (λ (l : List Frame). IsSearched (g.F.Filter.test c.args.filter.now) c.args.db.now.mission c.args.db.now.begun c.nodes.db.parts l c.nodes.taken) (sym c.keep.ensures)
+          (searched_back c.args.db.now.mission c.args.db.now.begun (g.F.Filter.test c.args.filter.now) c.nodes.db.parts c.nodes.frames c.pop.new.self c.in-Some.frame c.nodes.taken i.searched c.in-Some.ensures.some (omega (arith, c.if-frame-len.false, c.len.ensures)));
       steps = i.steps;
       within = i.within;
     }
