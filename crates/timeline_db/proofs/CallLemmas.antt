@@ -24,7 +24,7 @@ use Rattle.timeline_db.proofs.SupportLemmas.{db_deferred, db_met, db_supported}
 use Rattle.timeline_db.specs.Boards.{HasToken, line_at, no_line, token_of}
 use Rattle.timeline_db.specs.Databases.{IsDb}
 use Rattle.timeline_db.specs.Drafts.{Takes}
-use Rattle.timeline_db.specs.Kept.{goal_kept, kept_bounds}
+use Rattle.timeline_db.specs.Kept.{goal_kept, kept_bounds, narrow}
 use Rattle.timeline_db.specs.Lines.{nothing_held}
 use Rattle.timeline_db.specs.Plannings.{MayDoNow, Planning, partial_of}
 use Rattle.timeline_db.specs.Settling.{KeepsRows, Serves}
@@ -58,14 +58,14 @@ module _ (i : Inside) (d : IsHeldIn i) (s : Planning) (seen : seen_in i ≡ s) w
         let can = may_in i d s seen (Supported x.token x.need x.by) may in
         counted x.token x.need can.token (slice_get_within (needs_of i.base.mission (held_by (partial_of (seen_in i)) x.token).kind) x.need can.need can.is_need) can.yet
 
-    pub support_made : (made : List Bound) (n : Mission) → made ≡ backing_bounds n (record { token = (token_of i.draft.board x.token).held; need = x.need; by = (token_of i.draft.board x.by).held }) → n ≡ i.base.mission
+    pub support_made : (made : List Bound) (n : Mission) → made ≡ narrow (backing_bounds n (record { token = (token_of i.draft.board x.token).held; need = x.need; by = (token_of i.draft.board x.by).held })) → n ≡ i.base.mission
         → made ≡ kept_bounds i.base.mission (begun_in i) (partial_of (seen_in i)) (Supported x.token x.need x.by)
     support_made made n is same =
         let can = may_in i d s seen (Supported x.token x.need x.by) may in
         let backing : Held → Held → Backing = λ y z. record { token = y; need = x.need; by = z } in
-        is ∙ ap (λ (k : Mission). backing_bounds k (backing (token_of i.draft.board x.token).held (token_of i.draft.board x.by).held)) same
-        ∙ ap (λ (y : Held). backing_bounds i.base.mission (backing y (token_of i.draft.board x.by).held)) (sym (there x.token can.token).1)
-        ∙ ap (λ (y : Held). backing_bounds i.base.mission (backing (held_by (partial_of (seen_in i)) x.token) y)) (sym (there x.by can.server).1)
+        is ∙ ap (λ (k : Mission). narrow (backing_bounds k (backing (token_of i.draft.board x.token).held (token_of i.draft.board x.by).held))) same
+        ∙ ap (λ (y : Held). narrow (backing_bounds i.base.mission (backing y (token_of i.draft.board x.by).held))) (sym (there x.token can.token).1)
+        ∙ ap (λ (y : Held). narrow (backing_bounds i.base.mission (backing (held_by (partial_of (seen_in i)) x.token) y))) (sym (there x.by can.server).1)
 
     pub supported_in : (mid new : Draft) → mid.board ≡ i.draft.board → mid.course ≡ i.draft.course → mid.made.items ≡ kept_bounds i.base.mission (begun_in i) (partial_of (seen_in i)) (Supported x.token x.need x.by)
         → Takes (Supported x.token x.need x.by) 0 mid.made.items mid new → (es : List Extension) → es ≡ i.base.plan.extensions
@@ -113,13 +113,13 @@ module _ (i : Inside) (d : IsHeldIn i) (s : Planning) (seen : seen_in i ≡ s) w
         let shown = ap (λ (p : Partial). length p.goals) d.shows in
         omega (arith, slice_get_within (partial_of (seen_in i)).goals g None can.yet)
 
-    pub goal_made : (made : List Bound) (n : Mission) (k : ℕ) → made ≡ on_some (slice_get (goals_of n (suc k)) g) (λ (goal : Goal). goal_kept goal (token_of i.draft.board by).held) → n ≡ i.base.mission → k ≡ length i.base.plan.extensions
+    pub goal_made : (made : List Bound) (n : Mission) (k : ℕ) → made ≡ narrow (on_some (slice_get (goals_of n (suc k)) g) (λ (goal : Goal). goal_kept goal (token_of i.draft.board by).held)) → n ≡ i.base.mission → k ≡ length i.base.plan.extensions
         → made ≡ kept_bounds i.base.mission (begun_in i) (partial_of (seen_in i)) (MetGoal g by)
     goal_made made n k is same many =
         let can = may_in i d s seen (MetGoal g by) may in
-        is ∙ ap (λ (z : Mission). on_some (slice_get (goals_of z (suc k)) g) (λ (goal : Goal). goal_kept goal (token_of i.draft.board by).held)) same
-        ∙ ap (λ (z : ℕ). on_some (slice_get (goals_of i.base.mission (suc z)) g) (λ (goal : Goal). goal_kept goal (token_of i.draft.board by).held)) many
-        ∙ ap (λ (y : Held). on_some (slice_get (goals_of i.base.mission (number (begun_in i))) g) (λ (goal : Goal). goal_kept goal y)) (sym (there by can.server).1)
+        is ∙ ap (λ (z : Mission). narrow (on_some (slice_get (goals_of z (suc k)) g) (λ (goal : Goal). goal_kept goal (token_of i.draft.board by).held))) same
+        ∙ ap (λ (z : ℕ). narrow (on_some (slice_get (goals_of i.base.mission (suc z)) g) (λ (goal : Goal). goal_kept goal (token_of i.draft.board by).held))) many
+        ∙ ap (λ (y : Held). narrow (on_some (slice_get (goals_of i.base.mission (number (begun_in i))) g) (λ (goal : Goal). goal_kept goal y))) (sym (there by can.server).1)
 
     pub met_in : (mid new : Draft) → mid.board ≡ i.draft.board → mid.course ≡ i.draft.course → mid.made.items ≡ kept_bounds i.base.mission (begun_in i) (partial_of (seen_in i)) (MetGoal g by)
         → Takes (MetGoal g by) 0 mid.made.items mid new

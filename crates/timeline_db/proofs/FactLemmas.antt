@@ -21,6 +21,7 @@ use Rattle.search_tree.proofs.RangeLemmas.{held_fit, part_fit}
 use Rattle.search_tree.specs.Begun.{Begun}
 use Rattle.search_tree.specs.May.{IsSlot, MayDo}
 use Rattle.search_tree.specs.Outset.{MayBegin}
+use Rattle.search_tree.specs.PartBounds.{part_bounds}
 use Rattle.search_tree.specs.Partial.{Partial, Row, at, begin, cells, held_at, no_row, nobody, row}
 use Rattle.search_tree.specs.Parts.{gap_cell, grown_by, joined_cell}
 use Rattle.search_tree.specs.declared.held.Cell.{Cell}
@@ -32,6 +33,7 @@ use Rattle.stn_trail.specs.Held.{points_of, Held as Trailed}
 use Rattle.timeline_db.proofs.DbLemmas.{points_shown}
 use Rattle.search_laws.proofs.GoodLemmas.{good_all, good_points, good_root}
 use Rattle.timeline_db.proofs.KeptLemmas.{lasts_range}
+use Rattle.timeline_db.proofs.NarrowLemmas.{narrow_each}
 use Rattle.timeline_db.proofs.PictureLemmas.{cells-row}
 use Rattle.timeline_db.proofs.StepLemmas.{line_shown, shown_of}
 use Rattle.timeline_db.proofs.TimeLemmas.{tick_whole}
@@ -118,8 +120,8 @@ module _ (m : Mission) (b : Begun) (may : MayBegin m b) (p : Partial) (good : Is
       let high = tick.1 in
       let f = (part_fit m may.checked.mission b may.fixed.since p good.sound (Finished v) h).0 in
       (record { from = f.from; to = omega (arith, f.from); least = omega (arith, ints); most = omega (arith, ints) }, tt)
-  kept_fit (Supported t i by) h = part_fit m may.checked.mission b may.fixed.since p good.sound (Supported t i by) h
-  kept_fit (MetGoal g by) h = part_fit m may.checked.mission b may.fixed.since p good.sound (MetGoal g by) h
+  kept_fit (Supported t i by) h = narrow_each (IsFit (p.points + 0)) (part_bounds m b p (Supported t i by)) (part_fit m may.checked.mission b may.fixed.since p good.sound (Supported t i by) h)
+  kept_fit (MetGoal g by) h = narrow_each (IsFit (p.points + 0)) (part_bounds m b p (MetGoal g by)) (part_fit m may.checked.mission b may.fixed.since p good.sound (MetGoal g by) h)
   kept_fit (Deferred t i) h = tt
 
 all_fit : (n : ℕ) (bs : List Bound) → AllByRecursion (IsFit n) bs → All (IsInRange n) bs

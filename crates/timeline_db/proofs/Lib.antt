@@ -14,6 +14,7 @@ pub mod FlawLemmas
 pub mod KeptLemmas
 pub mod LayingLemmas
 pub mod LookLemmas
+pub mod NarrowLemmas
 pub mod OpeningLemmas
 pub mod OutsetLemmas
 pub mod OwnLemmas

@@ -2,28 +2,33 @@
 use Rattle.std.proofs.Common.{◌≡◌, ℕ, suc, List, [], ◌∷◌, ◌++◌, Some, slice_get, get_or, sym, ap, subst, append_assoc, append-nil, arith}
 use Rattle.std.proofs.lemmas.Int.{ints}
 use Rattle.std.proofs.lemmas.Option.{slice_get-get_or}
+use Rattle.hs_base.specs.Bounds.{goals_of, on_some}
 use Rattle.hs_base.specs.Ranges.{InRange, whole}
 use Rattle.hs_base.specs.Schedule.{Holds, Meets, Schedule}
+use Rattle.hs_base.specs.declared.mission.Goal.{Goal}
 use Rattle.hs_base.specs.declared.mission.Mission.{Mission}
 use Rattle.hs_base.specs.declared.net.Bound.{Bound}
+use Rattle.hs_base.specs.declared.plan.TokenRef.{TokenRef}
 use Rattle.base_laws.proofs.ListLemmas.{each_both, each_split}
 use Rattle.search_tree.proofs.CellLemmas.{given_cell, held_is}
 use Rattle.search_tree.proofs.PartLemmas.{All', Both, adds_part}
-use Rattle.search_tree.specs.Begun.{Begun}
-use Rattle.search_tree.specs.May.{IsSlot, MayDo}
+use Rattle.search_tree.specs.Begun.{Begun, number}
+use Rattle.search_tree.specs.May.{IsSlot, IsThere, MayDo}
 use Rattle.search_tree.specs.Outset.{MayBegin}
 use Rattle.search_tree.specs.PartBounds.{part_bounds}
-use Rattle.search_tree.specs.Partial.{Partial, Row, cells, held_at, nobody, row}
-use Rattle.search_tree.specs.PartialBounds.{partial_bounds}
+use Rattle.search_tree.specs.Partial.{Partial, Row, cells, held_at, held_by, nobody, row}
+use Rattle.search_tree.specs.PartialBounds.{backing_bounds, partial_bounds}
 use Rattle.search_tree.specs.Parts.{do_part, do_parts, gap_cell, joined_cell}
+use Rattle.search_tree.specs.declared.backing.Backing.{Backing}
 use Rattle.search_tree.specs.declared.held.Held.{Held}
 use Rattle.search_tree.specs.declared.part.Part.{Part}
 use Rattle.search_tree.specs.declared.part.Part.TheVariants.{Deferred, Finished, Followed, Inserted, Joined, MetGoal, Supported}
 use Rattle.search_laws.proofs.GoodLemmas.{good_part}
 use Rattle.timeline_db.proofs.KeptLemmas.{IsKnown, gap_both, joined_both}
-use Rattle.timeline_db.proofs.TimeLemmas.{mark_met, stop_met, tick_whole}
+use Rattle.timeline_db.proofs.NarrowLemmas.{IsWithin, backing_whole, goal_whole, narrow_both}
+use Rattle.timeline_db.proofs.TimeLemmas.{held_met, mark_met, tick_whole}
 use Rattle.search_laws.specs.Good.{AreAllowed, IsGood}
-use Rattle.timeline_db.specs.Kept.{kept_bounds, kept_of, tick_of}
+use Rattle.timeline_db.specs.Kept.{goal_kept, kept_bounds, kept_of, tick_of}
 
 module _ (m : Mission) (b : Begun) (may : MayBegin m b) (p : Partial) (good : IsGood m b p) (t : Schedule) (meets : Meets (partial_bounds m b p) t) where
   known : (v i : ℕ) (r : Row) → slice_get p.rows v ≡ Some r → IsSlot i r → IsKnown b t (tick_of m b) (held_at p v i).stop
@@ -38,8 +43,12 @@ module _ (m : Mission) (b : Begun) (may : MayBegin m b) (p : Partial) (good : Is
         mark = mark_met m b p t meets may;
         at = (omega (arith, ints, tick.0), omega (arith, ints, tick.1));
         since = may.fixed.since;
-        before = subst (λ n. InRange whole (t n)) (ap (λ (x : Held). x.stop) (sym held)) (stop_met m b p t meets good.sound v i r c is here);
+        before = subst (λ n. InRange whole (t n)) (ap (λ (x : Held). x.stop) (sym held)) (held_met m b p t meets good.sound v i r c is here).stop;
       }
+
+  -- a token's points stand within 0 to LAST
+  there_met : (x : TokenRef) → IsThere p x → IsWithin t (held_by p x)
+  there_met x h = subst (IsWithin t) (sym (held_is p x.sv.0 x.place h.row h.cell h.is_row h.here)) (held_met m b p t meets good.sound x.sv.0 x.place h.row h.cell h.is_row h.here)
 
   -- where the partial plan's bounds are kept, a part's bounds are kept where those on the trail are
   kept_part : (x : Part) → MayDo m b p x → Both (All' t (part_bounds m b p x)) (All' t (kept_bounds m b p x))
@@ -50,8 +59,13 @@ module _ (m : Mission) (b : Begun) (may : MayBegin m b) (p : Partial) (good : Is
       let origin = meets.origin in
       let mark = mark_met m b p t meets may in
       (λ k. (let e = k.0 in omega (arith, ints), tt), λ k. (let e = k.0 in omega (arith, ints), tt))
-  kept_part (Supported x i by) h = (λ k. k, λ k. k)
-  kept_part (MetGoal g by) h = (λ k. k, λ k. k)
+  kept_part (Supported x i by) h =
+      let s : Backing = record { token = held_by p x; need = i; by = held_by p by } in
+      narrow_both t (backing_bounds m s) (backing_whole t m s (there_met x h.token) (there_met by h.server))
+  kept_part (MetGoal g by) h =
+      let origin = meets.origin in
+      let goal = slice_get (goals_of m (number b)) g in
+      narrow_both t (on_some goal (λ (x : Goal). goal_kept x (held_by p by))) (goal_whole t goal (held_by p by) (omega (arith, ints), omega (arith, ints)) (there_met by h.server))
   kept_part (Deferred x i) h = (λ k. k, λ k. k)
 
 -- two lists of bounds have the same schedules

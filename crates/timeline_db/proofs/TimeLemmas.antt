@@ -1,12 +1,12 @@
 -- The times of a partial plan's tokens in its schedules.
-use Rattle.std.proofs.Common.{◌≡◌, ℕ, suc, ◌+◌, ◌-◌, ◌<◌, List, ◌++◌, Option, Some, length, map, flat_map, slice_get, pos, sym, ap, ◌∙◌, subst, inl, inr, arith}
+use Rattle.std.proofs.Common.{◌≡◌, ℕ, zero, suc, ◌+◌, ◌-◌, ◌<◌, List, ◌++◌, Option, Some, length, map, flat_map, slice_get, pos, sym, ap, ◌∙◌, subst, inl, inr, arith}
 use Rattle.std.proofs.lemmas.Bool.{cases_lt}
 use Rattle.std.proofs.lemmas.Int.{ints}
 use Rattle.std.proofs.lemmas.Option.{slice_get_within}
 use Rattle.std.specs.List.{AllByRecursion}
 use Rattle.std.specs.Prelude.{◌-ℤ◌, ◌≤ℤ◌, option_map, unwrap_or}
 use Rattle.hs_base.specs.Bounds.{bounds_of, exactly, fixed_bounds, goals_of, horizon_bounds, on_some, point_bounds, since_bounds}
-use Rattle.hs_base.specs.Points.{count, ending, place_of, points_of, timeline_of, tokens_of}
+use Rattle.hs_base.specs.Points.{count, start_at, timeline_of, tokens_of}
 use Rattle.hs_base.specs.Ranges.{InRange, whole}
 use Rattle.hs_base.specs.Schedule.{Holds, Meets, Schedule}
 use Rattle.hs_base.specs.declared.mission.Horizon.{Horizon}
@@ -15,7 +15,7 @@ use Rattle.hs_base.specs.declared.net.Bound.{Bound}
 use Rattle.base_laws.proofs.ListLemmas.{each_flat, each_split, slice_get-append_left}
 use Rattle.base_laws.proofs.MissionLemmas.{horizon_is}
 use Rattle.plan_laws.proofs.LengthLemmas.{points_in}
-use Rattle.search_tree.proofs.CellLemmas.{given_cell, held_from_at, length-held, row_at, slice_get-map_some, slice_get-past, start_at_below}
+use Rattle.search_tree.proofs.CellLemmas.{given_cell, held_from_at, held_from_start, length-held, row_at, slice_get-map_some, slice_get-past, start_at_below}
 use Rattle.search_tree.specs.Begun.{Begun, newest, number, stub}
 use Rattle.search_tree.specs.Outset.{MayBegin}
 use Rattle.search_tree.specs.Partial.{Partial, Row, cells, held_from}
@@ -23,6 +23,7 @@ use Rattle.search_tree.specs.PartialBounds.{backing_bounds, begun_bounds, finish
 use Rattle.search_tree.specs.Sound.{IsSound}
 use Rattle.search_tree.specs.declared.held.Cell.{Cell}
 use Rattle.search_tree.specs.declared.held.Held.{Held}
+use Rattle.timeline_db.proofs.NarrowLemmas.{IsWithin}
 use Rattle.timeline_db.specs.Kept.{tick_of}
 
 -- the tick of the next horizon is one
@@ -79,24 +80,33 @@ module _ (m : Mission) (b : Begun) (p : Partial) (t : Schedule) (meets : Meets (
       let tick = tick_is m b may in
       omega (arith, ints)
 
-  -- a token's end stands within 0 to LAST
-  pub stop_met : IsSound m b p → (v i : ℕ) (r : Row) (c : Cell) → slice_get p.rows v ≡ Some r → slice_get (cells r) i ≡ Some c → InRange whole (t c.held.stop)
-  stop_met sound v i r c is here = elim (cases_lt i (length (map given_cell r.given))) [
+  -- a point of the plan that is extended stands within 0 to LAST
+  base_point : (k : ℕ) → k < count b.base → InRange whole (t k)
+  base_point zero below = let origin = meets.origin in (omega (arith, ints), omega (arith, ints))
+  base_point (suc k) below =
+      let origin = meets.origin in
+      let q : InRange whole (t (suc k) -ℤ t 0) = (points_in m t b.base base_met).each (suc k) (omega arith) below in
+      (omega (arith, ints, q.0), omega (arith, ints, q.1))
+
+  -- a token's points stand within 0 to LAST
+  pub held_met : IsSound m b p → (v i : ℕ) (r : Row) (c : Cell) → slice_get p.rows v ≡ Some r → slice_get (cells r) i ≡ Some c → IsWithin t c.held
+  held_met sound v i r c is here = elim (cases_lt i (length (map given_cell r.given))) [
     | inl given ↦
         let row = row_at b 0 v p.rows r sound.rows is in
-        let zero_plus : 0 + v ≡ v = omega arith in
         let ks = timeline_of (tokens_of b.base) (0 + v) in
         let at : slice_get (map given_cell r.given) i ≡ Some c = sym (slice_get-append_left (map given_cell r.given) r.added i given) ∙ here in
         let x = slice_get-map_some given_cell r.given i c at in
         let y : slice_get (held_from b (0 + v) 0 ks) i ≡ Some x.0 = ap (λ (hs : List Held). slice_get hs i) (sym row.given) ∙ x.1 in
-        let stop : (x.0).stop ≡ place_of (ending (0 + v) (0 + i)) (points_of b.base) = held_from_at b (0 + v) 0 i ks x.0 y in
+        let start : (x.0).start ≡ start_at b.base (0 + v) (0 + i) = held_from_start b (0 + v) 0 i ks x.0 y in
+        let stop : (x.0).stop ≡ start_at b.base (0 + v) (suc (0 + i)) = held_from_at b (0 + v) 0 i ks x.0 y in
         let inside = slice_get_within (held_from b (0 + v) 0 ks) i x.0 y in
         let many = length-held b (0 + v) 0 ks in
-        let below : place_of (ending (0 + v) (0 + i)) (points_of b.base) < count b.base = start_at_below b.base (0 + v) (suc (0 + i)) (omega arith) in
-        let same = ap (λ (z : Cell). z.held.stop) x.2 in
-        let q : InRange whole (t (place_of (ending (0 + v) (0 + i)) (points_of b.base)) -ℤ t 0) = (points_in m t b.base base_met).each (place_of (ending (0 + v) (0 + i)) (points_of b.base)) (omega arith) below in
-        let origin = meets.origin in
-        subst (λ n. InRange whole (t n)) (sym stop ∙ same) (omega (arith, ints, q.0), omega (arith, ints, q.1))
+        let first = base_point (start_at b.base (0 + v) (0 + i)) (start_at_below b.base (0 + v) (0 + i) (omega arith)) in
+        let last = base_point (start_at b.base (0 + v) (suc (0 + i))) (start_at_below b.base (0 + v) (suc (0 + i)) (omega arith)) in
+        record {
+          start = subst (λ n. InRange whole (t n)) (sym start ∙ ap (λ (z : Cell). z.held.start) x.2) first;
+          stop = subst (λ n. InRange whole (t n)) (sym stop ∙ ap (λ (z : Cell). z.held.stop) x.2) last;
+        }
     | inr added ↦
         let at : slice_get r.added (i - length (map given_cell r.given)) ≡ Some c = sym (slice_get-past (map given_cell r.given) r.added i added) ∙ here in
         let row = each_flat (Holds t) (row_bounds m b) p.rows v r rows_met is in
@@ -104,8 +114,13 @@ module _ (m : Mission) (b : Begun) (p : Partial) (t : Schedule) (meets : Meets (
         let a = each_split (Holds t) (new ++ link_bounds 0 (cells r)) (finish_bounds b r) row in
         let tokens = (each_split (Holds t) new (link_bounds 0 (cells r)) a.0).0 in
         let h = each_flat (Holds t) (λ (c : Cell). token_bounds m b c.held) r.added (i - length (map given_cell r.given)) c tokens at in
-        stop_of m b t meets.origin c.held h
+        new_met m b t meets.origin c.held h
   ]
     where
-      stop_of : (m : Mission) (b : Begun) (t : Schedule) → t 0 ≡ pos 0 → (x : Held) → AllByRecursion (Holds t) (token_bounds m b x) → InRange whole (t x.stop)
-      stop_of m b t origin x h = let high = h.1.1.0 in let low = h.1.1.1.0 in (omega (arith, ints), omega (arith, ints))
+      new_met : (m : Mission) (b : Begun) (t : Schedule) → t 0 ≡ pos 0 → (x : Held) → AllByRecursion (Holds t) (token_bounds m b x) → IsWithin t x
+      new_met m b t origin x h =
+          let start_high = h.0 in
+          let start_low = h.1.0 in
+          let stop_high = h.1.1.0 in
+          let stop_low = h.1.1.1.0 in
+          record { start = (omega (arith, ints), omega (arith, ints)); stop = (omega (arith, ints), omega (arith, ints)) }

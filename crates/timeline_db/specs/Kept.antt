@@ -1,5 +1,5 @@
 -- The bounds that a part puts on the trail: those of its definition, without what others imply.
-use Rattle.std.specs.Prelude.{ℕ, ℤ, pos, neg_ℤ, ◌-ℤ◌, ◌+ℤ◌, suc, cond, ◌&&◌, int_le, int_lt, List, [], ◌∷◌, ◌++◌, Option, length, option_map, unwrap_or, slice_get}
+use Rattle.std.specs.Prelude.{ℕ, ℤ, pos, neg_ℤ, ◌-ℤ◌, ◌+ℤ◌, suc, cond, ◌&&◌, int_le, int_lt, List, [], ◌∷◌, ◌++◌, Option, filter, length, option_map, unwrap_or, slice_get}
 use Rattle.hs_base.specs.Bounds.{apart, on_some, together, goals_of}
 use Rattle.hs_base.specs.Points.{value_of}
 use Rattle.hs_base.specs.Schedule.{bound}
@@ -46,6 +46,10 @@ kept_cell m tick since x c next =
     (bound 0 c.held.start (tick -ℤ pos 1) ∷ []) ++ cond c.joined [] (bound c.held.start x (pos 0) ∷ [])
     ++ on_some (value_of m c.held.kind) (λ (v : Value). lasting_within tick since c.held v.lasts) ++ on_some next (λ y. bound y c.held.stop (pos 0) ∷ [])
 
+-- the bounds below LAST: points that stand in 0 to LAST keep the others
+abbrev pub narrow : List Bound → List Bound
+narrow bs = filter (λ (b : Bound). int_lt b.most LAST) bs
+
 -- a goal's token starts and stops in the goal's ranges
 abbrev pub goal_kept : Goal → Held → List Bound
 goal_kept g x = apart x.start 0 g.start ++ apart x.stop 0 g.stop
@@ -59,8 +63,8 @@ kept_bounds m b p (Inserted v i value) = kept_cell m (tick_of m b) b.since (held
 kept_bounds m b p (Followed v i value) = kept_cell m (tick_of m b) b.since (held_at p v.0 i).stop (joined_cell p v.0 i value.0) (start_from (cells (row p v.0)) (suc i))
 kept_bounds m b p (Joined v i) = together (held_at p v.0 (suc i)).start (held_at p v.0 i).stop
 kept_bounds m b p (Finished v) = bound (last_stop 0 (cells (row p v.0))) 0 (neg_ℤ (tick_of m b +ℤ pos 1)) ∷ []
-kept_bounds m b p (Supported t i by) = backing_bounds m (record { token = held_by p t; need = i; by = held_by p by })
-kept_bounds m b p (MetGoal g by) = on_some (slice_get (goals_of m (number b)) g) (λ (goal : Goal). goal_kept goal (held_by p by))
+kept_bounds m b p (Supported t i by) = narrow (backing_bounds m (record { token = held_by p t; need = i; by = held_by p by }))
+kept_bounds m b p (MetGoal g by) = narrow (on_some (slice_get (goals_of m (number b)) g) (λ (goal : Goal). goal_kept goal (held_by p by)))
 kept_bounds m b p (Deferred t i) = []
 
 -- those of parts that are done in order

@@ -5,7 +5,7 @@ ghost use Rattle.hs_base.specs.Points.{value_of};
 ghost use Rattle.hs_base.specs.Ranges.{InRange, IsRange, whole};
 ghost use Rattle.hs_base.specs.Schedule.{bound};
 ghost use Rattle.search_tree.specs.PartialBounds.{backing_bounds};
-ghost use Rattle.timeline_db.specs.Kept.{from_since, goal_kept, kept_cell, lasting, lasting_within, until_last};
+ghost use Rattle.timeline_db.specs.Kept.{from_since, goal_kept, kept_cell, lasting, lasting_within, narrow, until_last};
 
 use crate::lookups::{choice_at, need_at, value_at};
 use hs_base::{Bound, Goal, LAST, Memory, Mission, PointId, Range, Relation};
@@ -136,6 +136,13 @@ pub(crate) fn push_backing(
         Some(choice) => push_relation(made, choice.relation, backing.token, backing.by),
         None => Ok(()),
     }
+}
+
+/// Leaves out the bounds that say LAST or more: points that stand in 0 to LAST keep them.
+pub(crate) fn drop_wide(made: &mut Vec<Bound>)
+    ensures { made.new.items ≡ narrow made.old.items }
+{
+    made.retain(|b| b.most < LAST);
 }
 
 /// The tick of the next horizon, and the one before which no new token ends.

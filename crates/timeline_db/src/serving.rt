@@ -8,12 +8,12 @@ ghost use Rattle.stn_distance.specs.Ranges.{IsInRange};
 ghost use Rattle.stn_trail.specs.Held.{bounds_of, points_of};
 ghost use Rattle.timeline_db.specs.Boards.{HasToken, token_of};
 ghost use Rattle.timeline_db.specs.Drafts.{KeepsBoard, KeepsDraft, Takes};
-ghost use Rattle.timeline_db.specs.Kept.{goal_kept};
+ghost use Rattle.timeline_db.specs.Kept.{goal_kept, narrow};
 ghost use Rattle.timeline_db.specs.Settling.{KeepsRows, Serves};
 ghost use Rattle.timeline_db.specs.Shutting.{IfCycle};
 
 use crate::board::Board;
-use crate::bounding::{push_backing, push_goal};
+use crate::bounding::{drop_wide, push_backing, push_goal};
 use crate::draft::Draft;
 use crate::lookups::goal_at;
 use crate::shut::Shut;
@@ -74,21 +74,23 @@ impl Board {
 }
 
 impl Draft {
-    /// Notes the bounds of a support.
+    /// Notes the bounds of a support that are below LAST.
     pub fn make_support(&mut self, mission: &Mission, support: Support) -> Result<(), Memory>
         requires mission { IsMission mission.now }
         requires token { HasToken self.old.board support.token }
         requires by { HasToken self.old.board support.by }
-        ensures made { OnOk result (self.new.made.items ≡ backing_bounds mission.now (record { token = (token_of self.old.board support.token).held; need = support.need; by = (token_of self.old.board support.by).held })) }
+        ensures made { OnOk result (self.new.made.items ≡ narrow (backing_bounds mission.now (record { token = (token_of self.old.board support.token).held; need = support.need; by = (token_of self.old.board support.by).held }))) }
         ensures board { self.new.board ≡ self.old.board }
         ensures course { self.new.course ≡ self.old.course }
     {
         let backing = self.board.backing(support);
         self.made.clear();
-        push_backing(&mut self.made, mission, backing)
+        push_backing(&mut self.made, mission, backing)?;
+        drop_wide(&mut self.made);
+        Ok(())
     }
 
-    /// Notes the bounds of a goal of the horizon behind so many, for that token.
+    /// Notes the bounds of a goal of the horizon behind so many, for that token, that are below LAST.
     pub fn make_goal(
         &mut self,
         mission: &Mission,
@@ -98,16 +100,18 @@ impl Draft {
     ) -> Result<(), Memory>
         requires mission { IsMission mission.now }
         requires by { HasToken self.old.board by }
-        ensures made { OnOk result (self.new.made.items ≡ on_some (slice_get (goals_of mission.now (suc horizons)) goal) (λ g. goal_kept g (token_of self.old.board by).held)) }
+        ensures made { OnOk result (self.new.made.items ≡ narrow (on_some (slice_get (goals_of mission.now (suc horizons)) goal) (λ g. goal_kept g (token_of self.old.board by).held))) }
         ensures board { self.new.board ≡ self.old.board }
         ensures course { self.new.course ≡ self.old.course }
     {
         let held = self.board.token(by).held;
         self.made.clear();
-        match goal_at(mission, horizons, goal) {
-            Some(wanted) => push_goal(&mut self.made, wanted, held),
-            None => Ok(()),
-        }
+        let Some(wanted) = goal_at(mission, horizons, goal) else {
+            return Ok(());
+        };
+        push_goal(&mut self.made, wanted, held)?;
+        drop_wide(&mut self.made);
+        Ok(())
     }
 
     /// Notes no bound.
