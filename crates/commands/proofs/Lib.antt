@@ -1,5 +1,4 @@
 pub mod InputLemmas
-pub mod MeansLemmas
 pub mod FrontLemmas
 pub mod GivenLemmas
 pub mod WholeLemmas

@@ -14,7 +14,7 @@ use Rattle.text_laws.proofs.RefusalLemmas.{spelled_one, spelled_or_refused}
 use Rattle.domain_check.proofs.RuleLemmas.{not_meant}
 use Rattle.commands.specs.Inputs.{IsWhole, IsInFront, EndsAt, IsGiven}
 use Rattle.commands.specs.Sims.{IsRunRefusal}
-use Rattle.commands.proofs.MeansLemmas.{means_one}
+use Rattle.domain_check.proofs.MeansLemmas.{means_one}
 use Rattle.commands.proofs.FrontLemmas.{in_front_one, in_front_or_refused}
 use Rattle.commands.proofs.GivenLemmas.{given_or_alone}
 

@@ -2,6 +2,7 @@ pub mod EachLemmas
 pub mod LoopLemmas
 pub mod NumberLemmas
 pub mod MeaningLemmas
+pub mod MeansLemmas
 pub mod DifferLemmas
 pub mod AcceptedLemmas
 pub mod RisingLemmas

@@ -8,6 +8,7 @@ pub mod MissionLemmas
 pub mod PieceLemmas
 pub mod AnswerLemmas
 pub mod RefusalLemmas
+pub mod FrontLemmas
 pub mod WrittenLemmas
 pub mod WritesLemmas
 pub mod PrintedLemmas

@@ -1,8 +1,6 @@
 -- A written mission means one mission at most.
-use Rattle.std.proofs.Common.{◌≡◌, ℕ, Bool, List, [], ◌∷◌, map, Some, refl, sym, ap, ◌∙◌, subst, arith}
-use Rattle.std.specs.Prelude.{Option, None}
+use Rattle.std.proofs.Common.{◌≡◌, ℕ, List, map, sym, ap, ◌∙◌, arith}
 use Rattle.std.specs.List.{AllZip}
-use Rattle.hs_base.specs.declared.range.Range.{Range}
 use Rattle.hs_base.specs.declared.mission.Choice.{Choice}
 use Rattle.hs_base.specs.declared.mission.Goal.{Goal}
 use Rattle.hs_base.specs.declared.mission.Horizon.{Horizon}
@@ -27,7 +25,7 @@ use Rattle.hs_base.specs.declared.ast.AstValue.{AstValue}
 use Rattle.hs_base.specs.declared.ast.AstVar.{AstVar}
 use Rattle.hs_base.specs.declared.ast.Use.{Use}
 use Rattle.hs_base.specs.MissionMeaning.{IsNumberOf, UseMeans, StepMeans, SaidMeans, ValueMeans, VarMeans, ChoiceMeans, NeedMeans, GoalMeans, HorizonMeans, Numbers, Means, value_names, word_table}
-use Rattle.domain_check.specs.Numbering.{word_id, value_id, kind_of, step_of, said_of, range_of, value_of, begin_of, var_of, choice_of, need_of, goal_of, horizon_of, mission_of}
+use Rattle.domain_check.specs.Numbering.{word_id, value_id, step_of, said_of, range_of, value_of, begin_of, var_of, choice_of, need_of, goal_of, horizon_of, mission_of}
 use Rattle.domain_check.proofs.EachLemmas.{zip_map}
 use Rattle.domain_check.proofs.NumberLemmas.{number_is}
 use Rattle.domain_check.proofs.MeaningLemmas.{kind_is}
