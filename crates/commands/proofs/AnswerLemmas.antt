@@ -1,5 +1,5 @@
 -- What each command makes of a good input.
-use Rattle.std.proofs.Common.{◌≡◌, ℕ, List, length, refl, sym, ap, ◌∙◌, subst, inl, inr}
+use Rattle.std.proofs.Common.{◌≡◌, ℕ, List, length, refl, ap, ◌∙◌, subst, inl, inr}
 use Rattle.hs_base.specs.declared.ast.Ast.{Ast}
 use Rattle.hs_base.specs.declared.mission.Mission.{Mission}
 use Rattle.hs_base.specs.declared.plan.Extension.{Extension}
@@ -10,8 +10,8 @@ use Rattle.hs_base.specs.MissionSpelling.{IsMissionRefusal, IsRefusalOf}
 use Rattle.text_laws.proofs.RefusalLemmas.{spelled_one, spelled_or_refused}
 use Rattle.domain_check.proofs.RuleLemmas.{not_meant}
 use Rattle.commands.specs.Inputs.{IsGiven, IsRefused}
-use Rattle.commands.specs.Prints.{IsAccepted, IsPrinted, Prints}
-use Rattle.commands.specs.Checks.{IsSound, Judges, Checks}
+use Rattle.commands.specs.Prints.{IsAccepted, Prints}
+use Rattle.commands.specs.Checks.{Judges, Checks}
 use Rattle.commands.specs.Sims.{IsPlain, IsFlown, Runs, Sims}
 use Rattle.commands.specs.declared.status.Status.{Status}
 use Rattle.commands.specs.declared.status.Status.TheVariants.{Done, Usage, Refused, NoPlan, Budget, ReadFault, WriteFault, NoMemory, PlanRefused}

@@ -1,5 +1,5 @@
 -- The test whether a device takes part.
-use Rattle.std.proofs.Common.{◌≡◌, Bool, true, false, not, List, refl}
+use Rattle.std.proofs.Common.{◌≡◌, Bool, true, false, not, refl}
 use Rattle.std.specs.List.{AllByRecursion, list_all}
 use Rattle.hs_base.specs.declared.mission.Mission.{Mission}
 use Rattle.hs_base.specs.declared.mission.Value.{Value}

@@ -1,5 +1,5 @@
 -- What is read of a text, and why it is refused.
-use Rattle.std.proofs.Common.{◌≡◌, ◌≢◌, ℕ, List, refl, inl, inr}
+use Rattle.std.proofs.Common.{◌≢◌, ℕ, List, refl, inr}
 use Rattle.hs_base.specs.declared.ast.Ast.{Ast}
 use Rattle.hs_base.specs.declared.refusal.Refusal.{Refusal}
 use Rattle.hs_base.specs.declared.refusal.Refusal.TheVariants.{NotUtf8, Char, Expected, Number, Trailing, Twice, Unknown, Range, Limit, NoBegin, Horizons, SameVar, SameBy, Memory}
@@ -7,7 +7,6 @@ use Rattle.hs_base.specs.MissionSpelling.{SpellsFront, IsMissionRefusal}
 use Rattle.text_laws.specs.Refused.{OrMemory}
 use Rattle.commands.specs.Inputs.{IsFrontRefusalOf, IsRefused, IsTold}
 use Rattle.commands.specs.declared.status.Status.{Status}
-use Rattle.commands.specs.declared.status.Status.TheVariants.{Refused}
 
 -- what a condition allows, or the want of memory, a wider one allows too
 pub wider : (P Q : Refusal → Type 0) → ((r : Refusal) → P r → Q r) → (r : Refusal) → OrMemory P r → OrMemory Q r

@@ -1,4 +1,4 @@
-ghost use Rattle.std.specs.Prelude.{◌≡◌, length, MatchResult};
+ghost use Rattle.std.specs.Prelude.{MatchResult};
 ghost use Rattle.hs_base.specs.MissionSpelling.{IsRefusalOf};
 ghost use Rattle.text_laws.specs.Refused.{OrMemory};
 ghost use Rattle.commands.specs.Inputs.{IsWhole, IsInFront, IsFrontRefusalOf, IsGiven, IsGivenRefusal};

@@ -1,4 +1,4 @@
-ghost use Rattle.std.specs.Prelude.{◌≡◌, ◌≢◌, ◌↔◌, ◌++◌, [], not, length, IsTrue, IfOk};
+ghost use Rattle.std.specs.Prelude.{◌≡◌, ◌↔◌, [], not, length, IsTrue, IfOk};
 ghost use Rattle.hs_base.specs.LogText.{log_text};
 ghost use Rattle.std.specs.List.{list_all};
 ghost use Rattle.hs_base.specs.declared.mission.Value.{Value as MissionValue};

@@ -1,7 +1,6 @@
 -- What the doing of parts leaves.
-use Rattle.std.proofs.Common.{◌≡◌, ◌≢◌, ℕ, suc, ◌+◌, ◌≤◌, true, false, Bool, List, [], ◌∷◌, ◌++◌, append-nil, append_assoc, length, length-append, slice_get, take, Ok, Err, Result, refl, sym, ap, ◌∙◌, subst, arith, inl, inr}
+use Rattle.std.proofs.Common.{◌≡◌, ◌≢◌, ℕ, suc, ◌+◌, ◌≤◌, List, [], ◌∷◌, ◌++◌, append-nil, append_assoc, length, length-append, slice_get, take, Ok, Err, Result, refl, sym, ap, ◌∙◌, subst, arith, inl, inr}
 use Rattle.std.specs.Prelude.{Contains, IfErr, OnErr, OnOk}
-use Rattle.std.proofs.lemmas.Bool.{false≢true}
 use Rattle.hs_base.specs.Missions.{IsMission}
 use Rattle.hs_base.specs.declared.mission.Mission.{Mission}
 use Rattle.hs_base.specs.declared.plan.TokenRef.{TokenRef}
@@ -9,9 +8,8 @@ use Rattle.plan_laws.proofs.ChainLemmas.{contained_at}
 use Rattle.plan_laws.proofs.ScheduleLemmas.{left}
 use Rattle.compat_resolve.proofs.LineLemmas.{made_good}
 use Rattle.compat_resolve.specs.Applied.{DoesParts, MayDoParts, Prolongs}
-use Rattle.search_laws.proofs.FlawLemmas.{flaw_is}
 use Rattle.search_laws.proofs.GoodLemmas.{do_parts-append}
-use Rattle.search_laws.proofs.ResolverLemmas.{ForGoal, ForNeed, ForSlot, IsResolver, resolver_is, resolvers_within}
+use Rattle.search_laws.proofs.ResolverLemmas.{IsResolver, resolver_is, resolvers_within}
 use Rattle.search_laws.proofs.TreeLemmas.{resolver_allowed}
 use Rattle.search_laws.specs.Good.{AreAllowed}
 use Rattle.search_tree.proofs.PartLemmas.{adds_part}
@@ -19,14 +17,14 @@ use Rattle.search_tree.specs.Begun.{Begun}
 use Rattle.search_tree.specs.Flaws.{flaws}
 use Rattle.search_tree.specs.Outset.{MayBegin}
 use Rattle.search_tree.specs.PartBounds.{part_bounds}
-use Rattle.search_tree.specs.Partial.{Partial, at, begin, row}
+use Rattle.search_tree.specs.Partial.{Partial, at, begin}
 use Rattle.search_tree.specs.PartialBounds.{HasSchedule, partial_bounds}
 use Rattle.search_tree.specs.Parts.{do_part, do_parts}
 use Rattle.search_tree.specs.Resolvers.{connecting, parts_of, resolvers}
 use Rattle.search_tree.specs.declared.flaw.Flaw.{Flaw}
 use Rattle.search_tree.specs.declared.flaw.Flaw.TheVariants.{Gap as GapFlaw, Goal as GoalFlaw, Need as NeedFlaw}
 use Rattle.search_tree.specs.declared.flaw.Resolver.{Resolver}
-use Rattle.search_tree.specs.declared.flaw.Resolver.TheVariants.{Connect, Defer, Finish, Follow, Insert, Join}
+use Rattle.search_tree.specs.declared.flaw.Resolver.TheVariants.{Connect, Insert}
 use Rattle.search_tree.specs.declared.part.Part.{Part}
 use Rattle.search_tree.specs.declared.part.Part.TheVariants.{Inserted}
 use Rattle.timeline_db.specs.Heads.{IsHead}

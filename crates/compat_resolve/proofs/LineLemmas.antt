@@ -1,12 +1,9 @@
 -- What holds of the timelines of a partial plan whose parts were allowed.
-use Rattle.std.proofs.Common.{◌≡◌, ◌⊎◌, ℕ, zero, suc, ◌+◌, ◌*◌, ◌-◌, ◌<◌, ◌≤◌, ◌^◌, true, false, Bool, List, [], ◌∷◌, ◌++◌, drop, filter, flat_map, length, length-append, map, slice_get, take, Some, refl, sym, ap, ◌∙◌, subst, arith, inl, inr, nat_eq}
-use Rattle.std.proofs.lemmas.Bool.{cases_Bool, cases_lt, false≢true}
-use Rattle.std.proofs.lemmas.List.{take-append-drop}
+use Rattle.std.proofs.Common.{◌≡◌, ◌⊎◌, ℕ, zero, suc, ◌+◌, ◌-◌, ◌<◌, ◌≤◌, ◌^◌, true, false, List, [], ◌∷◌, length, map, slice_get, Some, refl, sym, ap, ◌∙◌, subst, arith, inl, inr}
+use Rattle.std.proofs.lemmas.Bool.{cases_lt, false≢true}
 use Rattle.std.proofs.lemmas.Option.{get_or_from_slice_get, slice_get-get_or, slice_get-map, slice_get_within}
 use Rattle.std.specs.List.{AllByRecursion}
 use Rattle.std.specs.Prelude.{get_or, option_map}
-use Rattle.hs_base.specs.Points.{timeline_of, tokens_of}
-use Rattle.hs_base.specs.declared.mission.Kind.{Kind}
 use Rattle.hs_base.specs.declared.mission.Mission.{Mission}
 use Rattle.hs_base.specs.declared.ids.SvId.{SvId}
 use Rattle.hs_base.specs.declared.plan.TokenRef.{TokenRef}
@@ -14,21 +11,15 @@ use Rattle.search_laws.proofs.FlawLemmas.{HasSlot, IsFlaw, flaw_is}
 use Rattle.search_laws.proofs.GoodLemmas.{good_all, good_root}
 use Rattle.search_laws.specs.Good.{AreAllowed, IsGood}
 use Rattle.search_tree.proofs.CellLemmas.{each_from_at, length-map', row_at}
-use Rattle.search_tree.proofs.SizeLemmas.{tokens_few}
 use Rattle.search_tree.proofs.SoundLemmas.{cell_variable}
 use Rattle.search_tree.specs.Begun.{Begun}
 use Rattle.search_tree.specs.Flaws.{flaws}
 use Rattle.search_tree.specs.May.{IsThere}
 use Rattle.search_tree.specs.Outset.{MayBegin}
 use Rattle.search_tree.specs.Partial.{Partial, Row, begin, cells, no_row, row}
-use Rattle.search_tree.specs.Parts.{do_part, do_parts}
-use Rattle.search_tree.specs.Resolvers.{new_tokens}
-use Rattle.search_tree.specs.Sound.{IsRow, IsSound}
+use Rattle.search_tree.specs.Sound.{IsRow}
 use Rattle.search_tree.specs.declared.flaw.Flaw.{Flaw}
 use Rattle.search_tree.specs.declared.flaw.Flaw.TheVariants.{Gap as GapFlaw, Need as NeedFlaw}
-use Rattle.search_tree.specs.declared.held.Cell.{Cell}
-use Rattle.search_tree.specs.declared.held.Held.{Held}
-use Rattle.search_tree.specs.declared.part.Part.{Part}
 use Rattle.timeline_db.specs.Heads.{IsHead}
 use Rattle.timeline_db.specs.Lines.{Shown, cell_of, row_of}
 use Rattle.timeline_db.specs.Plannings.{Planning, partial_of}

@@ -1,5 +1,5 @@
 -- How lists of resolvers grow.
-use Rattle.std.proofs.Common.{◌≡◌, ℕ, zero, suc, ◌+◌, ◌-◌, ◌<◌, ◌≤◌, true, false, Bool, List, [], ◌∷◌, ◌++◌, append-nil, append_assoc, cond, drop, flat_map, length, map, nat_eq, slice_get, take, None, Option, Some, ◌&&◌, ◌⊎◌, refl, sym, ap, ◌∙◌, subst, arith, inl, inr}
+use Rattle.std.proofs.Common.{◌≡◌, ℕ, suc, ◌+◌, ◌-◌, ◌<◌, ◌≤◌, true, false, Bool, List, [], ◌∷◌, ◌++◌, append-nil, append_assoc, cond, drop, length, map, nat_eq, slice_get, None, Option, Some, ◌&&◌, ◌⊎◌, refl, sym, ap, ◌∙◌, arith, inl, inr}
 use Rattle.std.proofs.lemmas.Bool.{cases_Bool, cases_lt, eq-eqb, eqb-true}
 use Rattle.std.proofs.lemmas.Option.{get_or_from_slice_get, slice_get-get_or, slice_get-map, slice_get_past, slice_get_within}
 use Rattle.std.specs.List.{AllByRecursion, list_any}
@@ -13,7 +13,7 @@ use Rattle.hs_base.specs.declared.mission.Kind.{Kind}
 use Rattle.hs_base.specs.declared.mission.Mission.{Mission}
 use Rattle.hs_base.specs.declared.plan.TokenRef.{TokenRef}
 use Rattle.search_tree.specs.Begun.{Begun}
-use Rattle.search_tree.specs.Flaws.{flat_map_from, slots, slots_after, slots_from}
+use Rattle.search_tree.specs.Flaws.{slots, slots_after, slots_from}
 use Rattle.search_tree.specs.Partial.{Partial, Row, at, cells, held_at, no_row, nobody, row}
 use Rattle.search_tree.specs.Resolvers.{growing, has_room, is_last, may_join, next_of, resolved, wanted}
 use Rattle.search_tree.specs.declared.flaw.Flaw.TheVariants.{Gap as GapFlaw}
@@ -21,7 +21,6 @@ use Rattle.search_tree.specs.declared.flaw.Resolver.{Resolver}
 use Rattle.search_tree.specs.declared.flaw.Resolver.TheVariants.{Connect, Finish, Follow, Insert, Join}
 use Rattle.search_tree.specs.declared.held.Cell.{Cell}
 use Rattle.search_tree.specs.declared.held.Held.{Held}
-use Rattle.timeline_db.specs.Heads.{IsHead}
 use Rattle.timeline_db.specs.Lines.{Shown, cell_of, nothing_held}
 use Rattle.timeline_db.specs.declared.token.Token.{Token}
 use Rattle.std.proofs.lemmas.List.{map-append}

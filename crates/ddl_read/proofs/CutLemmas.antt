@@ -1,5 +1,5 @@
 -- What stands behind a gap, and the pieces that were cut so far.
-use Rattle.std.proofs.Common.{◌≡◌, ℕ, zero, suc, not, nat_eq, ◌+◌, ◌-◌, ◌<◌, ◌≤◌, Bool, true, false, List, [], ◌∷◌, ◌++◌, length, get_or, map, take, drop, slice_range, refl, sym, ap, ◌∙◌, subst, arith, append_assoc, drop-cons, length-append, length-drop, drop-drop}
+use Rattle.std.proofs.Common.{◌≡◌, ℕ, zero, suc, not, nat_eq, ◌+◌, ◌-◌, ◌<◌, ◌≤◌, Bool, true, false, List, [], ◌∷◌, ◌++◌, length, get_or, map, take, drop, slice_range, refl, sym, ap, ◌∙◌, subst, arith, drop-cons, length-append, length-drop, drop-drop}
 use Rattle.std.specs.List.{AllByRecursion}
 use Rattle.std.proofs.lemmas.List.{take-append-drop}
 use Rattle.std.specs.List.{list_any}
@@ -8,11 +8,11 @@ use Rattle.std.proofs.lemmas.List.{map-append, length-map}
 use Rattle.std.specs.Prelude.{cond, ◌||◌, pos, ◌+ℤ◌, int_lt, slice_get, Some}
 use Rattle.std.proofs.lemmas.Bool.Decides.{nat_tests}
 use Rattle.hs_base.specs.declared.limits.TheConstants.{LAST, TEXT_BYTES}
-use Rattle.hs_base.specs.Pieces.{Piece as Spelling, word, number, symbol, number_of, is_large, is_space, IsBadNumber, IsTextOf, Placed, IsPiece, begins, bytes_of, begins_no_piece, after_gap, StandsFirst, Cuts, AreCut, IsBadChar}
+use Rattle.hs_base.specs.Pieces.{Piece as Spelling, word, number, symbol, number_of, is_large, is_space, IsBadNumber, Placed, IsPiece, begins, bytes_of, begins_no_piece, after_gap, StandsFirst, Cuts, AreCut, IsBadChar}
 use Rattle.ddl_read.specs.declared.piece.Piece.{Piece}
 use Rattle.ddl_read.specs.declared.piece.PieceKind.{PieceKind}
 use Rattle.ddl_read.specs.declared.piece.PieceKind.TheVariants.{Word, Number, Symbol}
-use Rattle.ddl_read.specs.Spelled.{spelling, spelling_of, bytes_of_piece, placed, KeepsNumber, IsSpelled}
+use Rattle.ddl_read.specs.Spelled.{spelling, bytes_of_piece, placed, KeepsNumber, IsSpelled}
 use Rattle.ddl_read.specs.Cutting.{Ends, IsBadNext, AreFirst, AreAll, is_too_large, IsFirstLarge, IsCut}
 
 -- a piece of these bytes stands behind the gap

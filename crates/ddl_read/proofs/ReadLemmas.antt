@@ -1,14 +1,14 @@
 -- From what was read of the pieces to what the bytes spell.
-use Rattle.std.proofs.Common.{◌≡◌, ℕ, zero, suc, drop, ◌+◌, ◌<◌, ◌≤◌, Bool, true, false, ◌||◌, List, [], ◌∷◌, length, map, take, refl, sym, ap, ◌∙◌, subst, arith}
+use Rattle.std.proofs.Common.{◌≡◌, ℕ, zero, suc, drop, ◌+◌, ◌<◌, ◌≤◌, false, List, [], ◌∷◌, length, map, take, refl, sym, ap, ◌∙◌, subst, arith}
 use Rattle.std.specs.Prelude.{pos, cond}
 use Rattle.std.specs.List.{AllByRecursion, list_any}
 use Rattle.std.proofs.lemmas.List.{length-map}
 use Rattle.hs_base.specs.declared.ast.Ast.{Ast}
-use Rattle.hs_base.specs.Pieces.{Piece as Spelling, Placed, number as digits, number_of, is_large, pieces_of, place_in, IsTextOf}
+use Rattle.hs_base.specs.Pieces.{Piece as Spelling, Placed, number_of, is_large, pieces_of, place_in}
 use Rattle.hs_base.specs.Languages.{IsExpected}
 use Rattle.hs_base.specs.MissionText.{MissionText}
 use Rattle.hs_base.specs.MissionSpelling.{Spells, SpellsFront, IsExpectedIn, IsTrailingIn}
-use Rattle.text_laws.specs.Parsers.{Read, done, stuck}
+use Rattle.text_laws.specs.Parsers.{done, stuck}
 use Rattle.text_laws.specs.MissionReading.{mission_at}
 use Rattle.text_laws.proofs.PieceLemmas.{cut_one}
 use Rattle.text_laws.proofs.MissionLemmas.{mission_reads}

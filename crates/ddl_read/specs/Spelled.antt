@@ -1,5 +1,5 @@
 -- The pieces of a text, as the cut keeps them.
-use Rattle.std.specs.Prelude.{◌≡◌, ℕ, ◌+◌, ◌≤◌, cond, ℤ, pos, ◌+ℤ◌, List, [], ◌∷◌, map, take, drop, length}
+use Rattle.std.specs.Prelude.{◌≡◌, ℕ, ◌+◌, ◌≤◌, cond, ℤ, pos, ◌+ℤ◌, List, map, take, drop, length}
 use Rattle.std.specs.List.{AllByRecursion}
 use Rattle.hs_base.specs.declared.limits.TheConstants.{LAST}
 use Rattle.hs_base.specs.Pieces.{Placed, number_of, is_large}

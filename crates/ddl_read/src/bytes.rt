@@ -1,4 +1,4 @@
-ghost use Rattle.std.specs.Prelude.{◌≡◌, ◌+◌, ◌-◌, ◌<◌, ◌≤◌, ℕ, true, false, length, drop, slice_range, IfSome};
+ghost use Rattle.std.specs.Prelude.{◌≡◌, ◌+◌, ◌-◌, ◌<◌, ◌≤◌, true, false, length, drop, slice_range};
 ghost use Rattle.std.specs.List.{list_all};
 ghost use Rattle.hs_base.specs.Pieces.{after_gap, begins, is_letter as is_letter_spec, is_digit as is_digit_spec, is_word_byte as is_word_byte_spec, is_symbol as is_symbol_spec, is_space as is_space_spec};
 

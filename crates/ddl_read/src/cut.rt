@@ -1,4 +1,4 @@
-ghost use Rattle.std.specs.Prelude.{◌≡◌, ◌<◌, ◌^◌, length, IfOk, IfErr};
+ghost use Rattle.std.specs.Prelude.{◌<◌, ◌^◌, length, IfOk, IfErr};
 ghost use Rattle.text_laws.specs.Refused.{OrMemory};
 ghost use Rattle.ddl_read.specs.Cutting.{AreAll, IsCharRefusal};
 

@@ -1,4 +1,4 @@
-ghost use Rattle.std.specs.Prelude.{◌≡◌, codes};
+ghost use Rattle.std.specs.Prelude.{codes};
 ghost use Rattle.hs_base.specs.Ranges.{whole};
 ghost use Rattle.text_laws.specs.Parsers.{is_word, many, maybe_after, several};
 ghost use Rattle.text_laws.specs.MissionReading.{range_at, var_at, need_at, goal_at, horizon_at, clauses_at, mission_at};

@@ -1,4 +1,4 @@
-ghost use Rattle.std.specs.Prelude.{◌≡◌, ◌+◌, ◌<◌, ◌≤◌, ◌^◌, [], ◌∷◌, false, true, length, drop, slice_range, IfSome, MatchOption, MatchResult};
+ghost use Rattle.std.specs.Prelude.{◌≡◌, ◌+◌, ◌<◌, ◌≤◌, ◌^◌, true, length, drop, slice_range, IfSome};
 ghost use Rattle.hs_base.specs.Pieces.{IsPiece, begins, bytes_of, begins_no_piece};
 ghost use Rattle.ddl_read.specs.Spelled.{KeepsNumber, spelling};
 ghost use Rattle.ddl_read.specs.Cutting.{IsNext};

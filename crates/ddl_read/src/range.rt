@@ -1,4 +1,3 @@
-ghost use Rattle.std.specs.Prelude.{◌≡◌};
 ghost use Rattle.text_laws.specs.Parsers.{behind};
 ghost use Rattle.text_laws.specs.MissionReading.{limit_at, range_at, use_at, kind_at, uses_at, next_at};
 ghost use Rattle.ddl_read.specs.Answers.{Gives};

@@ -1,6 +1,5 @@
-ghost use Rattle.std.specs.Prelude.{◌≡◌, ◌+◌, ℕ, length};
-ghost use Rattle.hs_base.specs.Languages.{word_says, symbol_says, number_says};
-ghost use Rattle.hs_base.specs.MissionText.{version_says, name_says};
+ghost use Rattle.std.specs.Prelude.{◌≡◌, ◌+◌, length};
+ghost use Rattle.hs_base.specs.Languages.{word_says, symbol_says};
 ghost use Rattle.text_laws.specs.Parsers.{next, one, is_word, is_sign, number};
 ghost use Rattle.text_laws.specs.MissionReading.{version_at, name_at};
 ghost use Rattle.ddl_read.specs.Spelled.{AreSpelled, spellings};

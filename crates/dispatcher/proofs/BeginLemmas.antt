@@ -1,6 +1,5 @@
 -- The state and the index in which a Dispatch begins.
-use Rattle.std.proofs.Common.{◌≡◌, ℕ, ◌<◌, Bool, List, [], length, refl, sym, ap, ◌∙◌, subst, arith, pos, inl, inr, map, get_or, Option, Some, None}
-use Rattle.std.proofs.lemmas.Int.{ints}
+use Rattle.std.proofs.Common.{◌≡◌, ℕ, ◌<◌, Bool, List, [], length, refl, sym, ap, ◌∙◌, subst, arith, inl, inr, map, get_or, Option, Some, None}
 use Rattle.std.proofs.lemmas.Bool.{cases_lt}
 use Rattle.std.proofs.lemmas.List.{get_or_past}
 use Rattle.std.proofs.lemmas.List.Elements.{Contains-get_or}
@@ -13,13 +12,13 @@ use Rattle.hs_base.specs.declared.net.Net.{Net}
 use Rattle.hs_base.specs.Schedule.{numbers_from}
 use Rattle.hs_base.specs.Network.{spread}
 use Rattle.hs_base.specs.Reduced.{IsReducedOf}
-use Rattle.hs_base.specs.Fits.{Times, time_at}
+use Rattle.hs_base.specs.Fits.{time_at}
 use Rattle.hs_base.specs.Dispatch.{IsReached}
 use Rattle.net_laws.proofs.NetworkLemmas.{offset_within, group_time_within}
 use Rattle.local_propagate.specs.declared.windows.Windows.{Windows}
 use Rattle.local_propagate.specs.Windows.{times_of, time_of}
 use Rattle.dispatcher.specs.declared.places.Place.{Place}
-use Rattle.dispatcher.specs.State.{State, IsLawful, times_in}
+use Rattle.dispatcher.specs.State.{IsLawful, times_in}
 use Rattle.dispatcher.specs.Places.{ArePlaces, member, place_at}
 use Rattle.dispatcher.specs.Index.{AreSetBy, IsWithin}
 use Rattle.dispatcher.proofs.KeptLemmas.{time_of_group}

@@ -1,31 +1,27 @@
 -- What the execution of a point makes of a state and its index.
-use Rattle.std.proofs.Common.{◌≡◌, ◌≢◌, ℕ, ◌+◌, ◌<◌, List, [], ◌∷◌, length, refl, sym, ap, ◌∙◌, subst, arith, pos, inl, inr, ◌⊎◌, get_or, set, map, All, Option, Some, None}
+use Rattle.std.proofs.Common.{◌≡◌, ◌≢◌, ℕ, ◌+◌, ◌<◌, List, [], ◌∷◌, length, refl, sym, ap, ◌∙◌, subst, arith, pos, inl, inr, get_or, set, map, All, Option, Some, None}
 use Rattle.std.proofs.lemmas.Int.{ints}
 use Rattle.std.proofs.lemmas.Bool.{cases_eq, eq-eqb, ne_eqb}
-use Rattle.std.proofs.lemmas.List.{length-map, length-set, get_or-map, get_or-set_same, get_or-set_other, get_or_default, get_or_past, same_lists}
+use Rattle.std.proofs.lemmas.List.{length-map, length-set, get_or-map, get_or-set_same, get_or-set_other, same_lists}
 use Rattle.std.proofs.lemmas.List.Elements.{Contains-get_or, All-from_get_or}
-use Rattle.std.proofs.lemmas.Bool.{cases_lt}
-use Rattle.std.specs.Prelude.{ℤ, ◌+ℤ◌, ◌-ℤ◌, ◌≤ℤ◌, ◌<ℤ◌, Contains}
+use Rattle.std.specs.Prelude.{ℤ, ◌+ℤ◌, ◌-ℤ◌, Contains}
 use Rattle.std.specs.List.{fold}
-use Rattle.hs_base.specs.declared.limits.TheConstants.{LAST}
 use Rattle.hs_base.specs.declared.net.Member.{Member}
 use Rattle.hs_base.specs.declared.net.Group.{Group}
-use Rattle.hs_base.specs.declared.net.Net.{Net}
 use Rattle.hs_base.specs.Network.{spread}
 use Rattle.hs_base.specs.Reduced.{IsReducedOf}
 use Rattle.hs_base.specs.Fits.{Times, put}
 use Rattle.hs_base.specs.Dispatch.{stands, group_time, IsReached}
 use Rattle.net_laws.proofs.BetweenLemmas.{Has}
-use Rattle.net_laws.proofs.LeaderLemmas.{cases_Option}
 use Rattle.net_laws.proofs.ListLemmas.{has_from, contains_from}
 use Rattle.net_laws.proofs.TimeLemmas.{time_by_none}
 use Rattle.net_laws.proofs.DispatchLemmas.{set as set_law, member as member_law}
 use Rattle.net_laws.proofs.StepLemmas.{fired as after_fire}
 use Rattle.net_laws.proofs.MoveLemmas.{group_fired, other_fired}
-use Rattle.net_laws.proofs.NetworkLemmas.{offset_within, stands_once, group_time_within}
+use Rattle.net_laws.proofs.NetworkLemmas.{offset_within, stands_once}
 use Rattle.local_propagate.specs.declared.windows.Windows.{Windows}
 use Rattle.local_propagate.specs.declared.windows.TheConstants.{NEVER}
-use Rattle.local_propagate.specs.Windows.{AreWindowsOf, time_of}
+use Rattle.local_propagate.specs.Windows.{time_of}
 use Rattle.dispatcher.specs.declared.places.Place.{Place}
 use Rattle.dispatcher.specs.State.{State, IsLawful, IsOpen, MayFire, fired, points, time_in, times_in}
 use Rattle.dispatcher.specs.Places.{ArePlaces, IsNearLeader, member, place_at}

@@ -1,21 +1,20 @@
 -- Why a point may be executed now, or which bound bars that.
-use Rattle.std.proofs.Common.{◌≡◌, ◌≢◌, ℕ, ◌<◌, List, [], map, length, refl, sym, ap, ◌∙◌, subst, arith, pos, inl, inr, ◌⊎◌, get_or, All, Some, None, ◌↔◌, Ok, Err, Result, w64, FitsSigned, to_z, of_z}
+use Rattle.std.proofs.Common.{◌≡◌, ℕ, ◌<◌, [], map, length, refl, sym, ap, ◌∙◌, subst, arith, pos, inl, inr, get_or, Some, None, ◌↔◌, Ok, Err, Result, w64, FitsSigned, to_z, of_z}
 use Rattle.std.proofs.lemmas.Int.{ints, to_z-of_z}
-use Rattle.std.proofs.lemmas.List.{length-map, get_or-map, get_or_default}
+use Rattle.std.proofs.lemmas.List.{length-map, get_or-map}
 use Rattle.std.proofs.lemmas.List.Elements.{Contains-get_or}
 use Rattle.std.specs.Prelude.{ℤ, ◌+ℤ◌, ◌-ℤ◌, ◌≤ℤ◌, ◌<ℤ◌, neg_ℤ, Contains, IsOk, MatchResult}
 use Rattle.hs_base.specs.declared.limits.TheConstants.{LAST}
 use Rattle.hs_base.specs.declared.net.Bound.{Bound}
 use Rattle.hs_base.specs.declared.net.Member.{Member}
 use Rattle.hs_base.specs.declared.net.Group.{Group}
-use Rattle.hs_base.specs.declared.net.Net.{Net}
 use Rattle.hs_base.specs.Schedule.{bound, Tight}
 use Rattle.hs_base.specs.Network.{spread}
 use Rattle.hs_base.specs.Fits.{Times}
 use Rattle.hs_base.specs.Dispatch.{stands, group_time, leader_times}
 use Rattle.net_laws.proofs.BetweenLemmas.{Has}
 use Rattle.net_laws.proofs.KeptLemmas.{cases_sign}
-use Rattle.net_laws.proofs.ListLemmas.{contains_from, has_from}
+use Rattle.net_laws.proofs.ListLemmas.{contains_from}
 use Rattle.net_laws.proofs.TimeLemmas.{time_by_none}
 use Rattle.net_laws.proofs.DispatchLemmas.{fire, set as set_law, member as member_law}
 use Rattle.net_laws.proofs.StepLemmas.{weight_inside, weight_along}

@@ -1,15 +1,14 @@
 -- Which points now holds, by set groups and by marks.
-use Rattle.std.proofs.Common.{◌≡◌, ◌≢◌, ℕ, ◌<◌, List, [], map, length, refl, sym, ap, ◌∙◌, subst, arith, pos, inl, inr, get_or, All, Option, Some, None, true, false}
+use Rattle.std.proofs.Common.{◌≡◌, ℕ, ◌<◌, List, [], map, length, refl, sym, ap, ◌∙◌, subst, arith, pos, inl, inr, get_or, All, Option, Some, None, true, false}
 use Rattle.std.proofs.lemmas.Int.{ints}
 use Rattle.std.proofs.lemmas.Bool.{cases_lt, both_ways}
 use Rattle.std.proofs.lemmas.List.{length-map, get_or-map, get_or_default, get_or_past}
 use Rattle.std.proofs.lemmas.List.Elements.{Contains-get_or, All-from_get_or}
-use Rattle.std.specs.Prelude.{ℤ, ◌+ℤ◌, ◌-ℤ◌, ◌≤ℤ◌, ◌<ℤ◌, ◌↔◌, Contains, IsNone, MatchOption}
+use Rattle.std.specs.Prelude.{ℤ, ◌+ℤ◌, ◌-ℤ◌, ◌↔◌, Contains, IsNone, MatchOption}
 use Rattle.hs_base.specs.declared.ids.PointId.{PointId}
 use Rattle.hs_base.specs.declared.net.Bound.{Bound}
 use Rattle.hs_base.specs.declared.net.Member.{Member}
 use Rattle.hs_base.specs.declared.net.Group.{Group}
-use Rattle.hs_base.specs.declared.net.Net.{Net}
 use Rattle.hs_base.specs.Schedule.{bound, Tight}
 use Rattle.hs_base.specs.Network.{spread}
 use Rattle.hs_base.specs.Fits.{Times, LateBound}
@@ -21,7 +20,7 @@ use Rattle.net_laws.proofs.MarkLemmas.{origin_tight}
 use Rattle.net_laws.proofs.AnswerLemmas.{marked_agree}
 use Rattle.net_laws.proofs.MoveLemmas.{tick_or}
 use Rattle.net_laws.proofs.NetworkLemmas.{offset_within, edge_within}
-use Rattle.local_propagate.specs.Joined.{leaders_of, leader_at, place_of}
+use Rattle.local_propagate.specs.Joined.{leaders_of, place_of}
 use Rattle.local_propagate.specs.Windows.{time_of}
 use Rattle.local_propagate.specs.declared.windows.Windows.{Windows}
 use Rattle.local_propagate.proofs.JoinedLemmas.{stands_at}

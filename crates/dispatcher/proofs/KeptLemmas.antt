@@ -1,12 +1,11 @@
 -- What a lawful state and its index say of groups, places and windows.
-use Rattle.std.proofs.Common.{◌≡◌, ◌≢◌, ℕ, ◌+◌, ◌<◌, List, [], length, refl, sym, ap, ◌∙◌, subst, arith, pos, inl, inr, ◌⊎◌, get_or, map, All, Option, Some, None, true, false}
+use Rattle.std.proofs.Common.{◌≡◌, ℕ, ◌+◌, ◌<◌, List, [], length, refl, sym, ap, ◌∙◌, subst, arith, pos, inl, inr, ◌⊎◌, get_or, map, All, Option, Some, None, true, false}
 use Rattle.std.proofs.lemmas.Int.{ints}
-use Rattle.std.proofs.lemmas.List.{length-map, get_or-map, get_or_default}
+use Rattle.std.proofs.lemmas.List.{length-map, get_or-map}
 use Rattle.std.proofs.lemmas.List.Elements.{Contains-get_or}
 use Rattle.std.specs.Prelude.{ℤ, ◌+ℤ◌, ◌≤ℤ◌, ◌<ℤ◌, Contains}
 use Rattle.std.specs.Option.{is_some}
 use Rattle.hs_base.specs.declared.limits.TheConstants.{LAST}
-use Rattle.hs_base.specs.declared.net.Bound.{Bound}
 use Rattle.hs_base.specs.declared.net.Member.{Member}
 use Rattle.hs_base.specs.declared.net.Group.{Group}
 use Rattle.hs_base.specs.declared.net.Net.{Net}
@@ -14,7 +13,7 @@ use Rattle.hs_base.specs.Network.{spread}
 use Rattle.hs_base.specs.Reduced.{IsReducedOf}
 use Rattle.hs_base.specs.Fits.{Times}
 use Rattle.hs_base.specs.Dispatch.{stands, group_time, lookup_time, leader_times}
-use Rattle.hs_base.specs.Windows.{IsHigh, AreHigh, AreLater}
+use Rattle.hs_base.specs.Windows.{IsHigh, AreHigh}
 use Rattle.net_laws.proofs.LeaderLemmas.{cases_Option}
 use Rattle.net_laws.proofs.ListLemmas.{contains_from}
 use Rattle.net_laws.proofs.NetworkLemmas.{leaders_differ, offset_within, edge_within, stands_once}

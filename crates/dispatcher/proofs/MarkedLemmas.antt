@@ -1,8 +1,8 @@
 -- Marks are sound at each step, and complete where nothing is left to mark.
-use Rattle.std.proofs.Common.{◌≡◌, ℕ, ◌+◌, ◌<◌, Bool, true, false, List, length, refl, sym, ap, ◌∙◌, subst, arith, pos, inl, inr, get_or, set, Option, Some, None}
-use Rattle.std.proofs.lemmas.Bool.{cases_eq, cases_Bool, cases_lt, both_ways, OnTrue_at, OnFalse_at}
+use Rattle.std.proofs.Common.{◌≡◌, ℕ, ◌+◌, ◌<◌, Bool, true, List, length, refl, sym, ap, ◌∙◌, subst, arith, pos, inl, inr, get_or, set, Option, Some, None}
+use Rattle.std.proofs.lemmas.Bool.{cases_eq, cases_Bool, cases_lt, OnTrue_at, OnFalse_at}
 use Rattle.std.proofs.lemmas.List.{get_or-set_same, get_or-set_other, get_or_past}
-use Rattle.std.proofs.lemmas.List.Elements.{All-contains, All-more}
+use Rattle.std.proofs.lemmas.List.Elements.{All-more}
 use Rattle.std.specs.Prelude.{ℤ, ◌+ℤ◌, Contains, All, take}
 use Rattle.std.specs.List.{count_by}
 use Rattle.std.specs.Option.{is_some, is_none}
@@ -15,8 +15,7 @@ use Rattle.hs_base.specs.Fits.{Times}
 use Rattle.hs_base.specs.Dispatch.{Marked, MarkedFrom, by_set, by_mark, from_set, from_mark}
 use Rattle.net_laws.proofs.BetweenLemmas.{int_eq-true, eq_int_eq}
 use Rattle.net_laws.proofs.LeaderLemmas.{cases_Option}
-use Rattle.dispatcher.specs.Marks.{AreSound, AreMarked, IsMet, held_by, holder}
-use Rattle.dispatcher.proofs.KeptLemmas.{some_from}
+use Rattle.dispatcher.specs.Marks.{AreSound, IsMet, held_by, holder}
 
 module _ (edges : List Bound) (time : Times) (n : ℤ) where
   held_set : (marks : List (Option PointId)) (e : Bound) (q : PointId) → Contains edges e → time e.to.0 ≡ None → (t : ℤ) → time e.from.0 ≡ Some t → held_by (Some t) (get_or marks e.from.0 None) e.from e.most n ≡ Some q → MarkedFrom edges time n q.0 e.to.0

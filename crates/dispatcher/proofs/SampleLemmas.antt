@@ -1,15 +1,15 @@
 -- The small network is the reduced one of its bounds, and nothing but Z is executed in it at 0.
-use Rattle.std.proofs.Common.{◌≡◌, ℕ, zero, suc, ◌<◌, List, [], ◌∷◌, get_or, Option, Some, None, refl, sym, ap, ◌∙◌, subst, arith, rules, pos, inl, inr}
+use Rattle.std.proofs.Common.{◌≡◌, ℕ, zero, suc, ◌<◌, List, [], ◌∷◌, get_or, Some, None, refl, sym, ap, ◌∙◌, subst, arith, rules, pos, inl, inr}
 use Rattle.std.specs.Prelude.{ℤ, negsuc, ◌≤ℤ◌, ◌-ℤ◌, ◌+ℤ◌, nat_eq}
 use Rattle.std.proofs.lemmas.Int.{ints}
 use Rattle.std.proofs.lemmas.Bool.{cases_Bool, eqb-true}
 use Rattle.hs_base.specs.declared.limits.TheConstants.{LAST}
 use Rattle.hs_base.specs.declared.net.Net.{Net}
 use Rattle.hs_base.specs.declared.plan.Time.{Time}
-use Rattle.hs_base.specs.Schedule.{Schedule, Meets, Implied, Tight, time_of}
+use Rattle.hs_base.specs.Schedule.{Schedule, Meets, Tight, time_of}
 use Rattle.hs_base.specs.Network.{spread}
 use Rattle.hs_base.specs.Reduced.{Table, IsTableOf, IsReducedOf}
-use Rattle.hs_base.specs.Fits.{Fits, time_at}
+use Rattle.hs_base.specs.Fits.{time_at}
 use Rattle.hs_base.specs.Dispatch.{IsReached}
 use Rattle.local_propagate.specs.Samples.{chain}
 use Rattle.dispatcher.specs.State.{State, MayGoOn, MayWait}

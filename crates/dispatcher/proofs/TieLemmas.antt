@@ -1,5 +1,5 @@
 -- Points are tied where they stand in one group at one offset.
-use Rattle.std.proofs.Common.{◌≡◌, ◌≢◌, ℕ, ◌<◌, Bool, true, List, [], length, refl, sym, ap, ◌∙◌, get_or, None, ◌↔◌}
+use Rattle.std.proofs.Common.{◌≡◌, ◌≢◌, ℕ, ◌<◌, true, List, [], ap, get_or, None, ◌↔◌}
 use Rattle.std.proofs.lemmas.List.Elements.{Contains-get_or}
 use Rattle.hs_base.specs.declared.net.Group.{Group}
 use Rattle.hs_base.specs.Network.{spread}

@@ -6,7 +6,7 @@ use Rattle.hs_base.specs.declared.net.Group.{Group}
 use Rattle.hs_base.specs.declared.net.Net.{Net}
 use Rattle.hs_base.specs.Dispatch.{stands, group_time}
 use Rattle.local_propagate.specs.declared.neighbours.Neighbour.{Neighbour}
-use Rattle.local_propagate.specs.Joined.{leader_at, leaders_of, place_of}
+use Rattle.local_propagate.specs.Joined.{leader_at}
 use Rattle.dispatcher.specs.State.{State, time_in}
 
 -- an edge of group i leads to the neighbour

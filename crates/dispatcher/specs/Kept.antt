@@ -1,5 +1,5 @@
 -- The view of a Course's fields, and what is kept of them.
-use Rattle.std.specs.Prelude.{◌≡◌, ◌≤◌, ◌^◌, length}
+use Rattle.std.specs.Prelude.{◌≤◌, ◌^◌, length}
 use Rattle.dispatcher.specs.declared.course.Course.TheInside.{Inside}
 use Rattle.dispatcher.specs.State.{State, IsLawful}
 use Rattle.dispatcher.specs.Places.{ArePlaces}

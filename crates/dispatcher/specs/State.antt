@@ -1,5 +1,5 @@
 -- What a Dispatch is seen as, and the state that it keeps.
-use Rattle.std.specs.Prelude.{◌≡◌, ◌≢◌, ◌⊎◌, ℕ, ◌<◌, ◌≤◌, Bool, true, false, ℤ, pos, ◌+ℤ◌, ◌-ℤ◌, ◌≤ℤ◌, List, length, map, get_or, set, Option, Some, None}
+use Rattle.std.specs.Prelude.{◌≡◌, ◌≢◌, ◌⊎◌, ℕ, ◌<◌, ◌≤◌, Bool, true, false, ℤ, pos, ◌+ℤ◌, ◌≤ℤ◌, List, length, map, get_or, set, Option, Some, None}
 use Rattle.hs_base.specs.declared.limits.TheConstants.{LAST}
 use Rattle.hs_base.specs.declared.net.Bound.{Bound}
 use Rattle.hs_base.specs.declared.net.Net.{Net}
@@ -7,7 +7,7 @@ use Rattle.hs_base.specs.declared.plan.Time.{Time}
 use Rattle.hs_base.specs.Schedule.{Schedule, bound, numbers_from}
 use Rattle.hs_base.specs.Network.{spread}
 use Rattle.hs_base.specs.Reduced.{IsReducedOf}
-use Rattle.hs_base.specs.Fits.{Times, Fits, time_at, MayBeNow, MayTick, IsForced, IsOneTime, Forbids, IsDue, LateBound}
+use Rattle.hs_base.specs.Fits.{Times, Fits, time_at, MayBeNow, MayTick, IsOneTime, Forbids, IsDue, LateBound}
 use Rattle.hs_base.specs.Dispatch.{IsReached}
 
 -- the network, which points are observed, the time of each executed point, and now

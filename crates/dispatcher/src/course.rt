@@ -1,4 +1,4 @@
-ghost use Rattle.std.specs.Prelude.{◌≡◌, ◌↔◌, ◌<◌, ◌≤◌, ◌^◌, ◌≤ℤ◌, ◌<ℤ◌, ℕ, ℤ, pos, true, length, slice_index_or, None, Some, IsTrue, IsOk, IfOk, IfErr, IfSome, IfNone, IsNone, MatchOption, MatchResult};
+ghost use Rattle.std.specs.Prelude.{◌≡◌, ◌↔◌, ◌<◌, ◌≤◌, ◌^◌, ◌≤ℤ◌, ◌<ℤ◌, ℕ, ℤ, pos, true, length, slice_index_or, None, Some, IsTrue, IsOk, IfOk, IfErr, MatchOption, MatchResult};
 ghost use Rattle.hs_base.specs.declared.limits.TheConstants.{LAST};
 ghost use Rattle.hs_base.specs.Network.{spread};
 ghost use Rattle.hs_base.specs.Reduced.{IsReducedOf};
@@ -7,7 +7,7 @@ ghost use Rattle.hs_base.specs.declared.net.Group.{Group};
 ghost use Rattle.hs_base.specs.Dispatch.{IsReached, group_time};
 ghost use Rattle.dispatcher.specs.Places.{StandsAt};
 ghost use Rattle.dispatcher.specs.Edges.{IsKnownIn, IsSetAt, LeadsTo, LetsFire};
-ghost use Rattle.dispatcher.specs.State.{IsLawful, IsOpen, IsLeastTied, IsTiedTo, MayFire, MayGoOn, MayWait, MustFire, IsInTime, IsLate, Bars, at_time, begun, fired, is_observed, points, ticked, time_in};
+ghost use Rattle.dispatcher.specs.State.{IsLawful, IsOpen, IsLeastTied, IsTiedTo, MayFire, MayGoOn, MayWait, MustFire, IsLate, Bars, at_time, begun, fired, is_observed, points, ticked, time_in};
 ghost use Rattle.dispatcher.specs.Marks.{AreMarksOf, Forced, IsHeldBy};
 
 use crate::groups::set_groups;

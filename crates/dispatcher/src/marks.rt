@@ -1,8 +1,7 @@
-ghost use Rattle.std.specs.Prelude.{◌≡◌, ◌<◌, ◌≤ℤ◌, ℕ, ℤ, pos, length, All};
+ghost use Rattle.std.specs.Prelude.{◌≡◌, ◌<◌, length, All};
 ghost use Rattle.std.specs.List.{count_by, slice_index_or};
 ghost use Rattle.std.specs.Option.{is_none};
 ghost use Rattle.std.specs.Bool.{OnTrue, OnFalse};
-ghost use Rattle.hs_base.specs.declared.limits.TheConstants.{LAST};
 ghost use Rattle.hs_base.specs.declared.net.Bound.{Bound};
 ghost use Rattle.dispatcher.specs.Marks.{AreMarked, AreSound, AreTimed, IsEdge, IsMet, holder, leader_time};
 

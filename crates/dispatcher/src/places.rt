@@ -1,4 +1,4 @@
-ghost use Rattle.std.specs.Prelude.{◌≡◌, ◌≤◌, ◌^◌, ℕ, All, IfOk, OnOk, length};
+ghost use Rattle.std.specs.Prelude.{◌≡◌, ◌≤◌, ◌^◌, All, IfOk, OnOk, length};
 ghost use Rattle.std.specs.List.{fold};
 ghost use Rattle.hs_base.specs.Network.{spread};
 ghost use Rattle.hs_base.specs.Reduced.{IsReducedOf};

@@ -1,7 +1,7 @@
 -- Candidates for kept edges: only dominated edges are dropped, and candidates alone decide.
-use Rattle.std.proofs.Common.{◌≡◌, ◌≢◌, ℕ, ◌+◌, ◌<◌, Bool, true, false, cond, take, List, [], ◌∷◌, ◌++◌, length, get_or, map, All, Contains, ℤ, pos, ◌+ℤ◌, to_z, of_z, w64, refl, sym, ap, ◌∙◌, subst, arith, inl, inr}
+use Rattle.std.proofs.Common.{◌≡◌, ◌≢◌, ℕ, ◌+◌, ◌<◌, Bool, true, false, cond, List, [], ◌∷◌, ◌++◌, length, get_or, map, All, Contains, ℤ, pos, ◌+ℤ◌, to_z, of_z, w64, refl, sym, ap, ◌∙◌, subst, arith, inl, inr}
 use Rattle.std.proofs.lemmas.Int.{ints}
-use Rattle.std.proofs.lemmas.Bool.{cases_Bool, both_ways, and_parts, and_from, and_right, or_left, or_right, eqb-true, eqb-false, eq-eqb, not-true, not-false, not_from_false, ne_eqb, cases_eq, cases_lt}
+use Rattle.std.proofs.lemmas.Bool.{cases_Bool, both_ways, and_parts, and_from, or_left, or_right, eqb-true, eqb-false, eq-eqb, not-true, not_from_false, ne_eqb, cases_eq, cases_lt}
 use Rattle.std.proofs.lemmas.List.{get_or-map, length-map, get_or_default}
 use Rattle.std.proofs.lemmas.List.Elements.{All-push, All-append, All-nil, All-contains, Contains-get_or, Contains-append_left, Contains-push, Contains-push_cases}
 use Rattle.std.proofs.lemmas.List.Folds.{list_any-append}
@@ -19,7 +19,7 @@ use Rattle.edge_filter.specs.declared.candidates.Candidate.{Candidate}
 use Rattle.edge_filter.specs.Sides.{along, has_sign, is_on, is_kept_at, is_kept_on}
 use Rattle.edge_filter.specs.Marks.{AreLeaders}
 use Rattle.edge_filter.specs.Weights.{IsRow, IsGrid, weights_on}
-use Rattle.edge_filter.specs.Candidates.{is_other, IsOther, HasOthers, IsPlaced, passes_by, passes, some_passes, is_left, IsSettled, AreNarrowed, is_unpassed}
+use Rattle.edge_filter.specs.Candidates.{is_other, IsOther, HasOthers, IsPlaced, passes, some_passes, is_left, IsSettled, AreNarrowed, is_unpassed}
 use Rattle.edge_filter.proofs.MarkLemmas.{leaders_are_web, leaders_apart}
 
 -- ---- Rows and their weights

@@ -4,9 +4,7 @@ use Rattle.std.proofs.lemmas.Bool.{cases_Bool, cases_eq, and_from, and_right, or
 use Rattle.std.proofs.lemmas.List.{get_or-map, get_or-set_same, get_or-set_other, length-map, length-set}
 use Rattle.std.proofs.lemmas.List.Elements.{Contains-get_or}
 use Rattle.std.proofs.lemmas.List.Folds.{list_any_more}
-use Rattle.std.specs.List.{list_any}
 use Rattle.std.specs.Prelude.{filter, int_le, int_lt, not, nat_eq, ◌&&◌, ◌||◌}
-use Rattle.hs_base.specs.declared.net.Group.{Group}
 use Rattle.hs_base.specs.declared.net.Net.{Net}
 use Rattle.hs_base.specs.Schedule.{bound}
 use Rattle.hs_base.specs.Reduced.{Table, IsReducedOf, leaders, group_of, is_kept, reduced}

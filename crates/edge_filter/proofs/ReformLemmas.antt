@@ -1,19 +1,16 @@
 -- A checked plan meets what its distances ask for.
-use Rattle.std.proofs.Common.{◌≡◌, ◌≢◌, ℕ, zero, suc, ◌+◌, ◌<◌, ◌≤◌, pos, List, [], ◌∷◌, ◌++◌, length, get_or, All, refl, sym, ap, ◌∙◌, subst, arith, length-append}
+use Rattle.std.proofs.Common.{◌≡◌, zero, suc, ◌+◌, ◌<◌, ◌≤◌, pos, List, [], ◌∷◌, ◌++◌, length, get_or, All, sym, subst, arith}
 use Rattle.std.proofs.lemmas.Int.{ints}
-use Rattle.std.specs.Prelude.{ℤ, ◌-ℤ◌, ◌≤ℤ◌, neg_ℤ, flat_map}
 use Rattle.std.specs.List.{AllByRecursion}
-use Rattle.hs_base.specs.declared.net.Bound.{Bound}
 use Rattle.hs_base.specs.declared.mission.Mission.{Mission}
 use Rattle.hs_base.specs.declared.plan.Time.{Time}
 use Rattle.hs_base.specs.declared.plan.Extension.{Extension}
-use Rattle.hs_base.specs.Walks.{EachAfter}
 use Rattle.hs_base.specs.Ranges.{range}
-use Rattle.hs_base.specs.Schedule.{Schedule, Meets, Holds, Implied}
-use Rattle.hs_base.specs.Points.{count, tokens_of}
-use Rattle.hs_base.specs.Bounds.{exactly, fixed_bounds, new_bounds, bounds_of}
-use Rattle.hs_base.specs.Checked.{fixed_of, free_points, joined, KeepsRules, Checked}
-use Rattle.base_laws.proofs.ListLemmas.{snoc_induction, each_both, each_at}
+use Rattle.hs_base.specs.Schedule.{Schedule, Meets, Holds}
+use Rattle.hs_base.specs.Points.{count}
+use Rattle.hs_base.specs.Bounds.{fixed_bounds, new_bounds, bounds_of}
+use Rattle.hs_base.specs.Checked.{fixed_of, KeepsRules, Checked}
+use Rattle.base_laws.proofs.ListLemmas.{snoc_induction, each_both}
 use Rattle.base_laws.proofs.PointLemmas.{count_is}
 use Rattle.plan_laws.specs.Fit.{IsFit}
 use Rattle.plan_laws.proofs.ScheduleLemmas.{left, right}

@@ -1,12 +1,10 @@
 -- The first handover: its reply, its entry, and what is kept.
-use Rattle.std.proofs.Common.{◌≡◌, ◌≢◌, ℕ, zero, suc, ◌+◌, ◌-◌, ◌<◌, ◌≤◌, Bool, true, false, List, [], ◌∷◌, ◌++◌, length, Option, Some, None, refl, sym, ap, ◌∙◌, subst, arith, pos, length-append, add-zero}
+use Rattle.std.proofs.Common.{◌≡◌, ◌≢◌, ℕ, ◌+◌, ◌-◌, ◌≤◌, Bool, true, false, List, [], ◌∷◌, ◌++◌, length, Some, None, refl, sym, ap, ◌∙◌, subst, arith, pos, length-append, add-zero}
 use Rattle.std.proofs.lemmas.Int.{ints}
 use Rattle.std.proofs.lemmas.List.Sums.{count_by-le-length}
 use Rattle.std.proofs.Math.Path.{fun_ext}
 use Rattle.std.specs.Prelude.{ℤ, ◌+ℤ◌, ◌≤ℤ◌, slice_get, vec_capacity}
 use Rattle.std.specs.Option.{is_none}
-use Rattle.std.specs.List.{count_by}
-use Rattle.hs_base.specs.declared.ids.PointId.{PointId}
 use Rattle.hs_base.specs.declared.mission.Horizon.{Horizon}
 use Rattle.hs_base.specs.declared.mission.Mission.{Mission}
 use Rattle.hs_base.specs.declared.plan.Extension.{Extension}
@@ -14,13 +12,13 @@ use Rattle.hs_base.specs.declared.net.Net.{Net}
 use Rattle.hs_base.specs.declared.history.Entry.{Entry}
 use Rattle.hs_base.specs.declared.history.Deed.TheVariants.{Handover}
 use Rattle.hs_base.specs.declared.history.Phase.{Phase}
-use Rattle.hs_base.specs.declared.history.Phase.TheVariants.{Waiting, Failed}
+use Rattle.hs_base.specs.declared.history.Phase.TheVariants.{Failed}
 use Rattle.hs_base.specs.Points.{count, hor, is_observed as ends_by_device}
 use Rattle.hs_base.specs.Bounds.{bounds_of}
 use Rattle.hs_base.specs.Reduced.{IsReducedOf}
 use Rattle.hs_base.specs.Checked.{Checked}
 use Rattle.hs_base.specs.Fits.{Times, Fits, time_at}
-use Rattle.hs_base.specs.State.{now_of, plan_of, executed, tick_at, has_failed, phase_of}
+use Rattle.hs_base.specs.State.{now_of, plan_of, executed, tick_at}
 use Rattle.hs_base.specs.Machine.{handover, done, Replies, IsLeftBy, Turn, base_of, is_over}
 use Rattle.hs_base.specs.Run.{MayAdd}
 use Rattle.plan_laws.proofs.StateLemmas.{plan_handed, times_kept, now_of-push}
@@ -31,7 +29,6 @@ use Rattle.exec_laws.proofs.StepLemmas.{replies_waiting, turn_added, may_add}
 use Rattle.exec_laws.proofs.EndingLemmas.{last_horizon}
 use Rattle.horizon_handover.specs.Offers.{IsDispatchOf}
 use Rattle.horizon_handover.proofs.StartLemmas.{start_fits}
-use Rattle.exec_core.specs.Recorded.{Recorded}
 use Rattle.exec_core.specs.Next.{MayTake}
 use Rattle.exec_core.specs.Room.{HasRoom}
 use Rattle.exec_core.specs.Kept.{IsFlying, IsAt, HasRoomFor, IsKept}

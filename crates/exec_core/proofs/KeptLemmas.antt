@@ -1,38 +1,32 @@
 -- What an executive keeps tells its phase, and is kept by each entry.
-use Rattle.std.proofs.Common.{◌≡◌, ◌≢◌, ℕ, zero, suc, ◌+◌, ◌-◌, ◌<◌, ◌≤◌, Bool, true, false, cond, List, [], ◌∷◌, ◌++◌, length, get_or, Option, Some, None, refl, sym, ap, ◌∙◌, subst, arith, is_some, add-zero}
+use Rattle.std.proofs.Common.{◌≡◌, ℕ, ◌+◌, ◌-◌, ◌<◌, ◌≤◌, Bool, true, false, cond, List, [], ◌∷◌, ◌++◌, length, Option, Some, None, refl, sym, ap, ◌∙◌, subst, arith, is_some, add-zero}
 use Rattle.std.proofs.lemmas.Int.{ints}
-use Rattle.std.specs.Prelude.{ℤ, pos, ◌+ℤ◌, ◌-ℤ◌, ◌≤ℤ◌, slice_get, vec_capacity}
+use Rattle.std.specs.Prelude.{ℤ, vec_capacity}
 use Rattle.std.specs.Option.{is_none}
 use Rattle.std.specs.List.{count_by}
 use Rattle.hs_base.specs.declared.ids.PointId.{PointId}
-use Rattle.hs_base.specs.declared.mission.Horizon.{Horizon}
 use Rattle.hs_base.specs.declared.mission.Mission.{Mission}
 use Rattle.hs_base.specs.declared.plan.Extension.{Extension}
-use Rattle.hs_base.specs.declared.net.Net.{Net}
 use Rattle.hs_base.specs.declared.history.Entry.{Entry}
-use Rattle.hs_base.specs.declared.history.Deed.{Deed}
-use Rattle.hs_base.specs.declared.history.Deed.TheVariants.{Tick, Handover}
+use Rattle.hs_base.specs.declared.history.Deed.TheVariants.{Tick}
 use Rattle.hs_base.specs.declared.history.Phase.{Phase}
 use Rattle.hs_base.specs.declared.history.Phase.TheVariants.{Waiting, Running, Failed, Ended}
-use Rattle.hs_base.specs.Points.{count, hor, is_observed as ends_by_device}
-use Rattle.hs_base.specs.Bounds.{bounds_of}
-use Rattle.hs_base.specs.Reduced.{IsReducedOf}
+use Rattle.hs_base.specs.Points.{hor}
 use Rattle.hs_base.specs.Fits.{time_at}
-use Rattle.hs_base.specs.State.{now_of, plan_of, times_of, executed, tick_at, executes, hands_over, is_tick, is_failure, has_failed, has_ended, phase_of}
-use Rattle.hs_base.specs.Machine.{tick, done, Replies, MayGoOn, is_over}
+use Rattle.hs_base.specs.State.{now_of, plan_of, executed, executes, hands_over, is_failure, has_failed, has_ended, phase_of}
+use Rattle.hs_base.specs.Machine.{tick, is_over}
 use Rattle.hs_base.specs.Run.{Run, MayAdd}
-use Rattle.plan_laws.proofs.StateLemmas.{plan_kept, plan_handed, times_kept, now_of-push}
-use Rattle.plan_laws.proofs.RunLemmas.{event_reply}
+use Rattle.plan_laws.proofs.StateLemmas.{plan_kept, times_kept, now_of-push}
 use Rattle.dispatcher.specs.State.{State, time_in, fired, ticked}
 use Rattle.exec_laws.specs.Follows.{Follows}
 use Rattle.exec_laws.proofs.StepLemmas.{running, run_more, phase_failed, phase_waiting, phase_flying, failed_more, follows_idle, follows_tick, follows_point}
-use Rattle.exec_laws.proofs.HorizonLemmas.{mark_below, before_horizon, before_tick}
+use Rattle.exec_laws.proofs.HorizonLemmas.{mark_below, before_horizon}
 use Rattle.exec_core.specs.Room.{HasRoom}
 use Rattle.exec_core.specs.Kept.{IsFlying, IsGrounded, IsAt, HasRoomFor, IsKept}
 use Rattle.exec_core.specs.declared.flight.Flight.{Flight}
 use Rattle.exec_core.specs.declared.exec.Exec.TheInside.{Inside}
 use Rattle.exec_core.proofs.RoomLemmas.{count_set, room_on}
-use Rattle.exec_laws.proofs.ReplyLemmas.{MayExecute, MayFail, done_running}
+use Rattle.exec_laws.proofs.ReplyLemmas.{MayExecute, MayFail}
 
 -- The phase by the fields.
 module _ (d : Inside) (k : IsKept d) where

@@ -1,5 +1,5 @@
 -- A push that has room.
-use Rattle.std.proofs.Common.{◌≡◌, Bool, true, false, cond, List, [], ◌∷◌, ◌++◌, refl, ap, ◌∙◌}
+use Rattle.std.proofs.Common.{◌≡◌, cond, List, [], ◌∷◌, ◌++◌, ap, ◌∙◌}
 use Rattle.std.specs.Prelude.{IsOk, is_ok}
 use Rattle.std.specs.declared.result.Result.{Result}
 

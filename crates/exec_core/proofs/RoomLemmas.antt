@@ -1,18 +1,17 @@
 -- Room in the history.
-use Rattle.std.proofs.Common.{◌≡◌, ℕ, zero, suc, ◌+◌, ◌-◌, ◌<◌, ◌≤◌, Bool, true, false, cond, List, [], ◌∷◌, ◌++◌, length, get_or, Option, Some, None, refl, sym, ap, ◌∙◌, subst, arith, length-append}
+use Rattle.std.proofs.Common.{◌≡◌, ℕ, ◌+◌, ◌-◌, ◌<◌, ◌≤◌, cond, List, [], ◌∷◌, ◌++◌, length, get_or, Option, Some, None, ap, ◌∙◌, arith, length-append}
 use Rattle.std.proofs.lemmas.Int.{ints}
 use Rattle.std.proofs.lemmas.List.Sums.{sum_by-set}
 use Rattle.std.proofs.Math.ListN.{set}
-use Rattle.std.specs.Prelude.{ℤ, pos, ◌+ℤ◌, ◌-ℤ◌, ◌≤ℤ◌, slice_get}
+use Rattle.std.specs.Prelude.{ℤ, pos, ◌-ℤ◌, ◌≤ℤ◌, slice_get}
 use Rattle.std.specs.Option.{is_none}
 use Rattle.std.specs.List.{count_by}
-use Rattle.hs_base.specs.declared.mission.Horizon.{Horizon}
 use Rattle.hs_base.specs.declared.mission.Mission.{Mission}
 use Rattle.hs_base.specs.declared.plan.Extension.{Extension}
 use Rattle.hs_base.specs.declared.history.Entry.{Entry}
 use Rattle.hs_base.specs.State.{plan_of}
 use Rattle.dispatcher.specs.State.{State}
-use Rattle.exec_core.specs.Room.{IsHorizonTick, HasRoom}
+use Rattle.exec_core.specs.Room.{HasRoom}
 
 -- an executed point is one open point less
 pub count_set : (xs : List (Option ℤ)) (i : ℕ) (t : ℤ) → i < length xs → get_or xs i None ≡ None → count_by is_none (set xs i (Some t)) + 1 ≡ count_by is_none xs

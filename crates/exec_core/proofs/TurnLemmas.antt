@@ -1,5 +1,5 @@
 -- A turn keeps the history, or adds one entry of its pass.
-use Rattle.std.proofs.Common.{◌≡◌, ℕ, List, [], ◌∷◌, ◌++◌, Option, Some, None, refl, ◌∙◌, inl, inr, append-nil}
+use Rattle.std.proofs.Common.{◌≡◌, ℕ, List, ◌++◌, Option, Some, None, ◌∙◌, inl, inr, append-nil}
 use Rattle.std.specs.Prelude.{option_to_list}
 use Rattle.hs_base.specs.declared.mission.Mission.{Mission}
 use Rattle.hs_base.specs.declared.history.Entry.{Entry}

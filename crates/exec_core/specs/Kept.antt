@@ -1,5 +1,5 @@
 -- What an executive keeps.
-use Rattle.std.specs.Prelude.{◌≡◌, ◌≢◌, ℕ, ◌<◌, Bool, false, List, [], length, vec_capacity, Option, Some, None}
+use Rattle.std.specs.Prelude.{◌≡◌, ◌≢◌, ℕ, ◌<◌, false, List, [], length, vec_capacity, Option, Some, None}
 use Rattle.hs_base.specs.declared.mission.Mission.{Mission}
 use Rattle.hs_base.specs.declared.history.Entry.{Entry}
 use Rattle.hs_base.specs.Points.{hor}

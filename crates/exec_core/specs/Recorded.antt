@@ -1,5 +1,5 @@
 -- What contracts see of an executive.
-use Rattle.std.specs.Prelude.{◌≡◌, ℕ, List, [], ◌∷◌, ◌++◌}
+use Rattle.std.specs.Prelude.{ℕ, List, [], ◌∷◌, ◌++◌}
 use Rattle.hs_base.specs.declared.mission.Mission.{Mission}
 use Rattle.hs_base.specs.declared.history.Entry.{Entry}
 use Rattle.hs_base.specs.declared.history.Deed.{Deed}

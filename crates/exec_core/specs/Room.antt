@@ -1,5 +1,5 @@
 -- Room in the history for every tick up to the newest horizon, every open point, and a failure.
-use Rattle.std.specs.Prelude.{◌≡◌, ℕ, ◌+◌, ◌-◌, ◌<◌, ℤ, pos, ◌+ℤ◌, ◌-ℤ◌, ◌≤ℤ◌, List, length, slice_get, Option, Some, None}
+use Rattle.std.specs.Prelude.{◌≡◌, ℕ, ◌+◌, ◌-◌, ℤ, pos, ◌+ℤ◌, ◌-ℤ◌, ◌≤ℤ◌, List, length, slice_get, Some}
 use Rattle.std.specs.Option.{is_none}
 use Rattle.std.specs.List.{count_by}
 use Rattle.hs_base.specs.declared.mission.Horizon.{Horizon}

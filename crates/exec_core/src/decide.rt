@@ -1,5 +1,5 @@
-ghost use Rattle.std.specs.Prelude.{◌≡◌, ◌<◌, ◌≤◌, None, MatchOption};
-ghost use Rattle.dispatcher.specs.State.{points, time_in, IsOpen};
+ghost use Rattle.std.specs.Prelude.{◌≡◌, ◌<◌, None, MatchOption};
+ghost use Rattle.dispatcher.specs.State.{points, IsOpen};
 ghost use Rattle.exec_laws.specs.Decisions.{DecidesTick, DecidesFire, DecidesReport, DecidesOwn};
 ghost use Rattle.exec_core.specs.Replies.{reply_of};
 ghost use Rattle.exec_core.specs.Refused.{IsRefused};

@@ -1,7 +1,7 @@
 ghost use Rattle.std.specs.Prelude.{◌≡◌, ◌<◌, ◌^◌, true, [], pos, length, Some, IfOk, OnOk, OnErr, MatchOption};
 ghost use Rattle.hs_base.specs.Missions.{IsMission};
 ghost use Rattle.hs_base.specs.State.{now_of, plan_of, phase_of, is_failure, executes};
-ghost use Rattle.hs_base.specs.Machine.{Event, Replies, Turn, tick, fire, report, broken, handover, done};
+ghost use Rattle.hs_base.specs.Machine.{Replies, Turn, tick, fire, report, broken, handover, done};
 ghost use Rattle.exec_core.specs.Recorded.{MayRecord, recording};
 ghost use Rattle.exec_core.specs.Replies.{reply_of};
 ghost use Rattle.exec_core.specs.Next.{IsTurnedAway, MayTake, IsTurnedDown};

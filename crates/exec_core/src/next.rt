@@ -1,4 +1,4 @@
-ghost use Rattle.std.specs.Prelude.{◌≡◌, ◌<◌, ◌^◌, MatchOption, length};
+ghost use Rattle.std.specs.Prelude.{◌<◌, ◌^◌, MatchOption, length};
 ghost use Rattle.hs_base.specs.Machine.{AgreeOn};
 ghost use Rattle.exec_core.specs.Next.{IsNextOf, IsNotNext};
 

@@ -1,16 +1,16 @@
 -- When some schedule fits, by the tight weights alone: the earliest one over the executed times, and now for all others.
-use Rattle.std.proofs.Common.{◌≡◌, ℕ, zero, ◌+◌, ◌<◌, ◌≤◌, List, [], Option, Some, None, refl, sym, ap, ◌∙◌, arith, inl, inr, pos}
+use Rattle.std.proofs.Common.{◌≡◌, ℕ, ◌<◌, ◌≤◌, List, Option, Some, None, refl, ap, arith, pos}
 use Rattle.std.proofs.lemmas.Int.{ints}
-use Rattle.std.specs.Prelude.{ℤ, ◌+ℤ◌, ◌-ℤ◌, ◌≤ℤ◌, unwrap_or}
+use Rattle.std.specs.Prelude.{ℤ, ◌-ℤ◌, ◌≤ℤ◌, unwrap_or}
 use Rattle.hs_base.specs.declared.net.Bound.{Bound}
-use Rattle.hs_base.specs.Schedule.{Schedule, Meets, numbers_from}
+use Rattle.hs_base.specs.Schedule.{Schedule, numbers_from}
 use Rattle.hs_base.specs.Reduced.{Table, IsTable, IsTableOf}
 use Rattle.hs_base.specs.Fits.{Times, Fits}
 use Rattle.exec_laws.specs.Allowing.{floor, AllowsAll}
 use Rattle.net_laws.proofs.BetweenLemmas.{Has}
 use Rattle.net_laws.proofs.ListLemmas.{has_numbers, numbers_has}
-use Rattle.net_laws.proofs.ExactLemmas.{Keeps, meets_keeps, keeps_meets, table_of}
-use Rattle.net_laws.proofs.LeaderLemmas.{earliest, earliest_above, earliest_from, earliest_least, earliest_step}
+use Rattle.net_laws.proofs.ExactLemmas.{meets_keeps, keeps_meets, table_of}
+use Rattle.net_laws.proofs.LeaderLemmas.{earliest, earliest_above, earliest_least, earliest_step}
 
 module _ (c : ℕ) (k : List Bound) (d : Table) (t : IsTableOf c k d) (at : Times) (n : ℤ) where
   floor_of : (x : ℕ) (u : ℤ) → at x ≡ Some u → floor at n x ≡ u

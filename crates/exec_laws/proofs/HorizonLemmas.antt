@@ -1,5 +1,5 @@
 -- The horizon's point of the newest plan, and the time before it is executed.
-use Rattle.std.proofs.Common.{◌≡◌, ◌≢◌, ℕ, zero, suc, ◌+◌, ◌-◌, ◌<◌, ◌≤◌, Bool, true, false, List, [], ◌∷◌, ◌++◌, length, Option, Some, None, refl, sym, ap, ◌∙◌, subst, arith, length-append, is_some}
+use Rattle.std.proofs.Common.{◌≡◌, ◌≢◌, ℕ, ◌+◌, ◌-◌, ◌<◌, ◌≤◌, false, List, [], ◌∷◌, ◌++◌, length, Option, Some, None, refl, sym, ap, ◌∙◌, subst, arith, length-append, is_some}
 use Rattle.std.proofs.lemmas.Int.{ints}
 use Rattle.std.specs.Prelude.{slice_get, ℤ, pos, ◌+ℤ◌, ◌≤ℤ◌}
 use Rattle.std.specs.List.{AllByRecursion}
@@ -11,7 +11,7 @@ use Rattle.hs_base.specs.Ranges.{range}
 use Rattle.hs_base.specs.Schedule.{Schedule, Meets, Holds}
 use Rattle.hs_base.specs.Points.{count, hor}
 use Rattle.hs_base.specs.Bounds.{new_bounds, exactly, on_some, IsScheduleOf}
-use Rattle.hs_base.specs.State.{plan_of, executed, tick_at, has_ended, FitsState}
+use Rattle.hs_base.specs.State.{plan_of, executed, tick_at, has_ended}
 use Rattle.hs_base.specs.Machine.{MayGoOn}
 use Rattle.hs_base.specs.Run.{Run}
 use Rattle.base_laws.proofs.ListLemmas.{EachAfter-push}

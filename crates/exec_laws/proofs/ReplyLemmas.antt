@@ -1,17 +1,15 @@
 -- What a lawful reply tells of the state, and which replies leave no entry.
-use Rattle.std.proofs.Common.{◌≡◌, ◌≢◌, ℕ, ◌<◌, ◌≤◌, Bool, true, false, not, ◌&&◌, nat_le, List, Option, Some, None, refl, sym, ap, ◌∙◌, subst, arith}
+use Rattle.std.proofs.Common.{◌≡◌, ◌≢◌, ℕ, ◌<◌, Bool, true, false, not, ◌&&◌, nat_le, List, Some, None, refl, sym, ◌∙◌, subst, arith}
 use Rattle.std.proofs.lemmas.Bool.Decides.{nat_tests}
-use Rattle.std.specs.Prelude.{ℤ, MatchOption, MatchBool}
 use Rattle.hs_base.specs.declared.ids.PointId.{PointId}
 use Rattle.hs_base.specs.declared.mission.Mission.{Mission}
-use Rattle.hs_base.specs.declared.net.Bound.{Bound}
 use Rattle.hs_base.specs.declared.history.Entry.{Entry}
 use Rattle.hs_base.specs.declared.history.Deed.{Deed}
-use Rattle.hs_base.specs.declared.history.Deed.TheVariants.{Tick, Fire, Report, Handover, Stale as StaleDeed, Late, Early, Broken}
+use Rattle.hs_base.specs.declared.history.Deed.TheVariants.{Fire, Report, Late, Early, Broken}
 use Rattle.hs_base.specs.declared.history.Phase.{Phase}
 use Rattle.hs_base.specs.declared.history.Phase.TheVariants.{Waiting, Running, Failed, Ended}
 use Rattle.hs_base.specs.State.{count_at, executed, phase_of, executes, is_failure, hands_over, is_tick}
-use Rattle.hs_base.specs.Machine.{Event, tick, fire, report, broken, done, over, no_net, no_point, observed, not_observed, stale, failed, RefusedIf, PointReply, EventReply, Replies, IsLeftBy, MayFire, is_over, is_waiting, needs_net, leaves_deed}
+use Rattle.hs_base.specs.Machine.{Event, fire, report, done, over, no_net, no_point, failed, RefusedIf, PointReply, Replies, IsLeftBy, MayFire, is_over, is_waiting, needs_net}
 use Rattle.hs_base.specs.Machine as machine
 use Rattle.plan_laws.proofs.RunLemmas.{otherwise}
 use Rattle.plan_laws.proofs.RunLemmas as run

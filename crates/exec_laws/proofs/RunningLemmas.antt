@@ -1,26 +1,26 @@
 -- A running state goes on: a tick, some fire or some report is answered with Done.
-use Rattle.std.proofs.Common.{◌≡◌, ◌≢◌, ℕ, zero, suc, ◌+◌, ◌<◌, ◌≤◌, Bool, true, false, not, cond, nat_eq, nat_le, List, [], ◌∷◌, ◌++◌, Option, Some, None, refl, sym, ap, ◌∙◌, subst, arith, inl, inr, ◌⊎◌, add-zero, pos}
+use Rattle.std.proofs.Common.{◌≡◌, ◌≢◌, ℕ, zero, suc, ◌+◌, ◌<◌, ◌≤◌, true, false, nat_eq, nat_le, List, [], ◌∷◌, ◌++◌, Option, Some, None, refl, sym, ap, ◌∙◌, subst, arith, inl, inr, pos}
 use Rattle.std.proofs.lemmas.Int.{ints}
 use Rattle.std.proofs.lemmas.Bool.{cases_Bool, eqb-true}
 use Rattle.std.proofs.lemmas.Bool.Decides.{nat_tests}
 use Rattle.std.proofs.lemmas.Option.{slice_get_within}
-use Rattle.std.specs.Prelude.{ℤ, ◌+ℤ◌, ◌≤ℤ◌, slice_get}
+use Rattle.std.specs.Prelude.{ℤ, ◌≤ℤ◌, slice_get}
 use Rattle.hs_base.specs.declared.ids.PointId.{PointId}
 use Rattle.hs_base.specs.declared.mission.Mission.{Mission}
 use Rattle.hs_base.specs.declared.plan.Extension.{Extension}
 use Rattle.hs_base.specs.declared.net.Net.{Net}
 use Rattle.hs_base.specs.declared.history.Entry.{Entry}
 use Rattle.hs_base.specs.declared.history.Deed.{Deed}
-use Rattle.hs_base.specs.declared.history.Deed.TheVariants.{Tick, Fire, Report, Handover, Stale, Late, Early, Broken}
+use Rattle.hs_base.specs.declared.history.Deed.TheVariants.{Handover}
 use Rattle.hs_base.specs.declared.history.Phase.TheVariants.{Running}
 use Rattle.hs_base.specs.Points.{Point, count, points_of, device_ends, is_observed}
 use Rattle.hs_base.specs.Bounds.{bounds_of}
 use Rattle.hs_base.specs.Network.{spread}
 use Rattle.hs_base.specs.Reduced.{IsReducedOf}
-use Rattle.hs_base.specs.Fits.{put, time_at, IsDue, LateBound}
+use Rattle.hs_base.specs.Fits.{put, time_at, LateBound}
 use Rattle.hs_base.specs.Dispatch.{IsReached}
-use Rattle.hs_base.specs.State.{now_of, plan_of, times_of, count_at, bounds_at, executed, tick_at, watched, phase_of, executes, hands_over, is_tick}
-use Rattle.hs_base.specs.Machine.{Event, Reply, tick, fire, report, handover, done, due, over, no_net, MayGoOn, MayFire, MustFire, IsTied, Replies, EventReply, HandoverReply, FireReply, IsLeftBy}
+use Rattle.hs_base.specs.State.{now_of, plan_of, count_at, bounds_at, executed, tick_at, watched, phase_of, executes, hands_over}
+use Rattle.hs_base.specs.Machine.{Event, Reply, tick, fire, report, handover, done, due, over, no_net, MayFire, MustFire, IsTied, Replies, EventReply, HandoverReply, IsLeftBy}
 use Rattle.hs_base.specs.Run.{MayAdd, Run}
 use Rattle.base_laws.proofs.ListLemmas.{snoc_induction}
 use Rattle.base_laws.proofs.PointLemmas.{count-push}

@@ -1,4 +1,4 @@
-ghost use Rattle.std.specs.Prelude.{◌≡◌, ◌↔◌, ℕ, ◌<◌, ℤ, pos, List, Some};
+ghost use Rattle.std.specs.Prelude.{◌≡◌, ℕ, ◌<◌, ℤ, pos, List, Some};
 ghost use Rattle.hs_base.specs.declared.mission.Mission.{Mission};
 ghost use Rattle.hs_base.specs.declared.net.Bound.{Bound};
 ghost use Rattle.hs_base.specs.declared.history.Entry.{Entry};

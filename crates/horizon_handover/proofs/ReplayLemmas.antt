@@ -1,15 +1,15 @@
 -- Executing the points of a list in the order of their times.
-use Rattle.std.proofs.Common.{◌≡◌, ℕ, zero, suc, ◌+◌, ◌<◌, ◌≤◌, Bool, true, false, cond, nat_eq, List, [], ◌∷◌, ◌++◌, length, take, drop, get_or, Option, Some, None, refl, sym, ap, ◌∙◌, subst, arith, inl, inr, pos}
+use Rattle.std.proofs.Common.{◌≡◌, ℕ, ◌+◌, ◌<◌, ◌≤◌, nat_eq, List, [], ◌∷◌, ◌++◌, Option, Some, None, refl, ap, ◌∙◌, arith, inl, inr}
 use Rattle.std.proofs.lemmas.Int.{ints}
-use Rattle.std.proofs.lemmas.Bool.{cases_Bool, eqb-true}
+use Rattle.std.proofs.lemmas.Bool.{cases_Bool}
 use Rattle.std.specs.Prelude.{ℤ, ◌≤ℤ◌}
 use Rattle.std.specs.List.{AllByRecursion}
 use Rattle.hs_base.specs.declared.net.Bound.{Bound}
 use Rattle.hs_base.specs.declared.plan.Time.{Time}
 use Rattle.hs_base.specs.Schedule.{Schedule}
-use Rattle.hs_base.specs.Fits.{time_at, Fits, EachOnce, put}
+use Rattle.hs_base.specs.Fits.{time_at, Fits}
 use Rattle.hs_base.specs.Dispatch.{or_else}
-use Rattle.plan_laws.proofs.StateLemmas.{time_at-append, time_at-put}
+use Rattle.plan_laws.proofs.StateLemmas.{time_at-append}
 
 front_time : (front rest : List Time) (x : ℕ) (u : ℤ) → time_at front x ≡ Some u → time_at (front ++ rest) x ≡ Some u
 front_time front rest x u is = time_at-append front rest x ∙ ap (λ (o : Option ℤ). or_else o (time_at rest x)) is

@@ -1,17 +1,15 @@
 -- The phase of a history whose newest plan's horizon point is known.
-use Rattle.std.proofs.Common.{◌≡◌, ◌≢◌, ℕ, zero, suc, ◌+◌, ◌<◌, Bool, true, false, cond, ◌||◌, nat_eq, pos, List, [], ◌∷◌, ◌++◌, length, map, Option, Some, None, option_to_list, is_some, ◌⊎◌, inl, inr, refl, sym, ap, ◌∙◌, arith}
+use Rattle.std.proofs.Common.{◌≡◌, ◌≢◌, ℕ, ◌+◌, ◌<◌, Bool, true, false, cond, ◌||◌, nat_eq, pos, List, [], ◌∷◌, ◌++◌, length, map, Option, Some, None, option_to_list, is_some, ◌⊎◌, inl, inr, refl, sym, ap, ◌∙◌, arith}
 use Rattle.std.specs.List.{list_any}
 use Rattle.std.proofs.lemmas.Bool.Decides.{eqb_tells}
 use Rattle.hs_base.specs.declared.ids.PointId.{PointId}
 use Rattle.hs_base.specs.declared.plan.Time.{Time}
 use Rattle.hs_base.specs.declared.plan.Extension.{Extension}
-use Rattle.hs_base.specs.declared.history.Deed.{Deed}
 use Rattle.hs_base.specs.declared.history.Entry.{Entry}
-use Rattle.hs_base.specs.declared.history.Phase.{Phase}
 use Rattle.hs_base.specs.declared.history.Phase.TheVariants.{Waiting, Running, Failed, Ended}
-use Rattle.hs_base.specs.Points.{points_of, hor}
+use Rattle.hs_base.specs.Points.{hor}
 use Rattle.hs_base.specs.Fits.{time_at}
-use Rattle.hs_base.specs.State.{executes, ticks_of, time_of_entry, times_from, times_of, plan_of, has_failed, has_ended, is_empty, phase_of}
+use Rattle.hs_base.specs.State.{executes, ticks_of, times_from, times_of, plan_of, has_failed, has_ended, is_empty, phase_of}
 use Rattle.journal_text.specs.Stands.{newest_horizon, is_point, executes_point}
 
 -- a plan with a horizon point is not empty, and the point is not the origin

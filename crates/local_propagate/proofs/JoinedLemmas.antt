@@ -8,7 +8,7 @@ use Rattle.hs_base.specs.declared.net.Bound.{Bound}
 use Rattle.hs_base.specs.declared.net.Group.{Group}
 use Rattle.hs_base.specs.declared.net.Net.{Net}
 use Rattle.local_propagate.specs.declared.neighbours.Neighbour.{Neighbour}
-use Rattle.local_propagate.specs.Joined.{leaders_of, place_of, Joins, AreDifferent, IsJoined, ArePlaces, IsNear, after_of, before_of}
+use Rattle.local_propagate.specs.Joined.{leaders_of, place_of, Joins, AreDifferent, IsJoined, ArePlaces, IsNear}
 
 pub different_tail : (l : ℕ) (ls : List ℕ) → AreDifferent (l ∷ ls) → AreDifferent ls
 different_tail l ls h = record { each = λ i j ii jj same. omega (arith, h.each (suc i) (suc j) (omega (arith, ii)) (omega (arith, jj)) same) }

@@ -1,6 +1,6 @@
 -- Lists of neighbours that grow at one group.
 use Rattle.std.proofs.Common.{◌≡◌, ℕ, ◌<◌, ◌∷◌, [], ◌++◌, List, length, ap, sym, ◌∙◌, get_or, map, set}
-use Rattle.std.proofs.lemmas.List.{map-set, get_or-map, get_or_read}
+use Rattle.std.proofs.lemmas.List.{map-set, get_or-map}
 use Rattle.smallvec.specs.SmallVec.{SmallVec}
 
 -- the items of one list after a push

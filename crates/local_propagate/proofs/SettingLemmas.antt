@@ -1,9 +1,8 @@
 -- What setting one group makes of the windows of a network.
-use Rattle.std.proofs.Common.{◌≡◌, ◌≢◌, ℕ, zero, suc, ◌+◌, ◌<◌, Bool, true, false, List, [], ◌∷◌, length, refl, sym, ap, ◌∙◌, subst, arith, pos, inl, inr, ◌⊎◌, get_or, set, map, filter, Option, Some, None}
-use Rattle.std.proofs.lemmas.Int.{ints}
+use Rattle.std.proofs.Common.{◌≡◌, ◌≢◌, ℕ, zero, suc, ◌+◌, ◌<◌, false, List, [], ◌∷◌, length, refl, sym, ap, ◌∙◌, arith, pos, inl, inr, get_or, set, filter, Option, Some, None}
 use Rattle.std.proofs.lemmas.Bool.{cases_eq, cases_Bool, eq-eqb, ne_eqb, eqb-true}
 use Rattle.std.proofs.lemmas.List.{length-map}
-use Rattle.std.specs.Prelude.{ℤ, ◌+ℤ◌, ◌-ℤ◌, ◌≤ℤ◌, ◌&&◌, nat_eq, int_lt, Contains}
+use Rattle.std.specs.Prelude.{ℤ, ◌+ℤ◌, ◌-ℤ◌, ◌&&◌, nat_eq, int_lt, Contains}
 use Rattle.std.specs.List.{count_by}
 use Rattle.std.specs.Option.{is_none}
 use Rattle.hs_base.specs.declared.net.Bound.{Bound}
@@ -17,7 +16,7 @@ use Rattle.net_laws.proofs.WindowLemmas.{low_set, high_set}
 use Rattle.local_propagate.specs.declared.neighbours.Neighbour.{Neighbour}
 use Rattle.local_propagate.specs.Joined.{leaders_of, place_of, AreDifferent, after_of, before_of}
 use Rattle.local_propagate.specs.Windows.{waits_at}
-use Rattle.local_propagate.proofs.JoinedLemmas.{different_tail, place_at, StandsAt, stands_at}
+use Rattle.local_propagate.proofs.JoinedLemmas.{different_tail, place_at, stands_at}
 use Rattle.local_propagate.proofs.NarrowLemmas.{Raised, Lowered, leaves, count_yes, count_no}
 
 -- the time of the leader at i is the i-th

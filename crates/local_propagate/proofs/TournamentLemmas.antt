@@ -1,12 +1,12 @@
 -- The winner of a tournament is the least number.
-use Rattle.std.proofs.Common.{◌≡◌, ◌≢◌, ℕ, zero, suc, ◌+◌, ◌-◌, ◌/◌, ◌<◌, ◌≤◌, List, length, sym, ◌∙◌, subst, arith, pos, inl, inr, ◌⊎◌, get_or, set, drop, refl, ap}
+use Rattle.std.proofs.Common.{◌≡◌, ℕ, zero, suc, ◌+◌, ◌-◌, ◌/◌, ◌<◌, ◌≤◌, List, length, sym, ◌∙◌, subst, arith, pos, inl, inr, ◌⊎◌, get_or, drop, refl, ap}
 use Rattle.std.proofs.lemmas.Int.{ints, clamps}
 use Rattle.std.proofs.lemmas.Bool.{cases_eq, cases_Bool, cases_lt}
-use Rattle.std.proofs.lemmas.List.{get_or-set_same, get_or-set_other, get_or-drop, length-drop, get_or_default}
+use Rattle.std.proofs.lemmas.List.{get_or-drop, length-drop, get_or_default}
 use Rattle.std.proofs.lemmas.List.Elements.{Contains-get_or}
 use Rattle.std.specs.Prelude.{ℤ, ◌≤ℤ◌, int_lt, Contains}
 use Rattle.std.specs.Int.{int_min}
-use Rattle.local_propagate.specs.Tournament.{IsWon, IsWonBut, IsTournament}
+use Rattle.local_propagate.specs.Tournament.{IsTournament}
 
 pub cases_min : (x y : ℤ) → (int_min x y ≡ x) ⊎ (int_min x y ≡ y)
 cases_min x y = elim (cases_Bool (int_lt y x)) [ inl e ↦ inr (rw e refl) | inr e ↦ inl (rw e refl) ]

@@ -1,25 +1,22 @@
 -- The windows of a network before and after a group is set.
-use Rattle.std.proofs.Common.{◌≡◌, ◌≢◌, ℕ, ◌+◌, ◌<◌, Bool, List, [], length, refl, sym, ap, ◌∙◌, subst, arith, pos, inl, inr, ◌⊎◌, get_or, set, map, filter, All, Option, Some, None}
-use Rattle.std.proofs.lemmas.Int.{ints}
-use Rattle.std.proofs.lemmas.Bool.{cases_eq, eq-eqb, ne_eqb}
+use Rattle.std.proofs.Common.{◌≡◌, ◌≢◌, ℕ, ◌<◌, List, [], length, refl, sym, ap, ◌∙◌, subst, arith, pos, inl, inr, get_or, set, All, Some, None}
+use Rattle.std.proofs.lemmas.Bool.{cases_eq}
 use Rattle.std.proofs.lemmas.List.{length-map, length-set, get_or-map, get_or-set_same, get_or-set_other}
 use Rattle.std.specs.Prelude.{ℤ, Contains}
 use Rattle.std.specs.List.{fold, count_by}
 use Rattle.hs_base.specs.declared.net.Bound.{Bound}
 use Rattle.hs_base.specs.declared.net.Group.{Group}
 use Rattle.hs_base.specs.declared.net.Net.{Net}
-use Rattle.hs_base.specs.Fits.{Times, put}
+use Rattle.hs_base.specs.Fits.{put}
 use Rattle.net_laws.proofs.BetweenLemmas.{Has}
-use Rattle.net_laws.proofs.LeaderLemmas.{cases_Option}
 use Rattle.net_laws.proofs.ListLemmas.{contains_from}
-use Rattle.local_propagate.specs.declared.neighbours.Neighbour.{Neighbour}
 use Rattle.local_propagate.specs.declared.windows.Windows.{Windows}
 use Rattle.local_propagate.specs.declared.windows.TheConstants.{NEVER}
-use Rattle.local_propagate.specs.Joined.{leaders_of, leader_at, place_of, Joins, IsNear, after_of, before_of}
+use Rattle.local_propagate.specs.Joined.{leaders_of, leader_at, place_of, IsNear, after_of, before_of}
 use Rattle.local_propagate.specs.Narrowed.{raised, lowered, released}
-use Rattle.local_propagate.specs.Windows.{AreWindowsOf, AreApart, time_of, set_times, low_of, high_of, waits_at}
+use Rattle.local_propagate.specs.Windows.{AreWindowsOf, AreApart, time_of, set_times, low_of, high_of}
 use Rattle.local_propagate.proofs.JoinedLemmas.{stands_at, list_near}
-use Rattle.local_propagate.proofs.NarrowLemmas.{Raised, Lowered, raises, lowers, releases, leaves, raised_elsewhere, lowered_elsewhere, lowered_set, length-raised, length-lowered, length-released}
+use Rattle.local_propagate.proofs.NarrowLemmas.{Raised, Lowered, raises, lowers, releases, leaves, raised_elsewhere, lowered_elsewhere, lowered_set}
 use Rattle.local_propagate.proofs.SettingLemmas.{lookup_at, lookup_set, low_agree, high_agree, low_now, high_now, waits_now, has_after, has_before, at_place}
 
 module _ (net : Net) (w : Windows) (of : AreWindowsOf net w) (g : ℕ) (ig : g < length w.times.items) where

@@ -1,5 +1,5 @@
 -- Networks as the windows see them: groups by number, and the neighbours of each.
-use Rattle.std.specs.Prelude.{◌≡◌, ◌≢◌, ℕ, suc, ◌<◌, cond, nat_eq, pos, neg_ℤ, ◌≤ℤ◌, List, [], ◌∷◌, length, map, filter, get_or, Contains}
+use Rattle.std.specs.Prelude.{◌≡◌, ◌≢◌, ℕ, suc, ◌<◌, cond, nat_eq, neg_ℤ, ◌≤ℤ◌, List, [], ◌∷◌, length, map, filter, get_or, Contains}
 use Rattle.hs_base.specs.declared.limits.TheConstants.{LAST}
 use Rattle.hs_base.specs.declared.net.Bound.{Bound}
 use Rattle.hs_base.specs.declared.net.Group.{Group}

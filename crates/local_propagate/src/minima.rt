@@ -1,4 +1,4 @@
-ghost use Rattle.std.specs.Prelude.{◌≡◌, ◌+◌, ◌<◌, ◌≤ℤ◌, ℕ, All, Contains, IfOk, length, pos, replicate, slice_index_or, slice_set, drop};
+ghost use Rattle.std.specs.Prelude.{◌≡◌, ◌+◌, ◌<◌, ◌≤ℤ◌, All, Contains, IfOk, length, pos, replicate, slice_index_or, slice_set, drop};
 ghost use Rattle.local_propagate.specs.Tournament.{IsTournament, IsWonBut};
 
 use hs_base::Memory;

@@ -1,4 +1,4 @@
-ghost use Rattle.std.specs.Prelude.{◌≡◌, ◌<◌, ℕ, All, IfOk, map};
+ghost use Rattle.std.specs.Prelude.{◌≡◌, ◌<◌, All, IfOk, map};
 ghost use Rattle.local_propagate.specs.Joined.{IsJoined, AreDifferent, ArePlaces, leaders_of, after_of, before_of};
 
 use crate::neighbours::{Neighbour, Neighbours};

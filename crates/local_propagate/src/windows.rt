@@ -1,4 +1,4 @@
-ghost use Rattle.std.specs.Prelude.{◌≡◌, ◌⊎◌, ◌↔◌, ◌<◌, ◌≤◌, ◌≤ℤ◌, ◌<ℤ◌, ℕ, ℤ, pos, neg_ℤ, All, Contains, IfOk, IsTrue, None, Some, length, map, replicate, slice_index_or, slice_set};
+ghost use Rattle.std.specs.Prelude.{◌≡◌, ◌⊎◌, ◌↔◌, ◌<◌, ◌≤◌, ◌≤ℤ◌, ℕ, ℤ, pos, All, IfOk, IsTrue, None, Some, length, map, replicate, slice_set};
 ghost use Rattle.std.specs.List.{fold, count_by};
 ghost use Rattle.local_propagate.specs.Joined.{IsJoined, IsNear};
 ghost use Rattle.local_propagate.specs.Narrowed.{is_negative, raised, lowered, released};

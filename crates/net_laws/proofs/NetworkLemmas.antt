@@ -2,7 +2,7 @@
 use Rattle.std.proofs.Common.{◌≡◌, ◌≢◌, ℕ, zero, suc, ◌+◌, ◌<◌, ◌≤◌, Bool, List, [], ◌∷◌, length, refl, sym, ap, ◌∙◌, subst, arith, pos, inl, inr, get_or, cond, map, Some}
 use Rattle.std.proofs.lemmas.Int.{ints}
 use Rattle.std.proofs.lemmas.Bool.{cases_Bool, cases_lt}
-use Rattle.std.specs.Prelude.{ℤ, ◌+ℤ◌, ◌-ℤ◌, ◌≤ℤ◌, neg_ℤ, Contains, filter, ⊤}
+use Rattle.std.specs.Prelude.{ℤ, ◌≤ℤ◌, neg_ℤ, Contains, filter, ⊤}
 use Rattle.hs_base.specs.declared.limits.TheConstants.{LAST}
 use Rattle.hs_base.specs.declared.net.Bound.{Bound}
 use Rattle.hs_base.specs.declared.net.Member.{Member}
@@ -13,7 +13,6 @@ use Rattle.hs_base.specs.Network.{spread}
 use Rattle.hs_base.specs.Reduced.{Table, IsReducedOf, is_leader, leaders, group_of}
 use Rattle.hs_base.specs.Fits.{Times}
 use Rattle.hs_base.specs.Dispatch.{stands, group_time, IsReached}
-use Rattle.net_laws.proofs.BetweenLemmas.{Has}
 use Rattle.net_laws.proofs.TimeLemmas.{time_by_some}
 use Rattle.net_laws.proofs.ListLemmas.{contains_from}
 use Rattle.net_laws.proofs.GroupLemmas.{has_leader}

@@ -1,25 +1,14 @@
 -- Which points an extension may fix.
-use Rattle.std.proofs.Common.{◌≡◌, ℕ, zero, suc, ◌+◌, ◌<◌, ◌≤◌, ◌^◌, false, true, Bool, ◌||◌, nat_eq, ℤ, pos, List, [], ◌∷◌, ◌++◌, length, take, get_or, refl, sym, ap, ◌∙◌, subst, arith, inl, inr, append-nil}
-use Rattle.std.proofs.lemmas.Int.{ints}
-use Rattle.std.proofs.lemmas.Bool.{cases_Bool, cases_lt}
-use Rattle.std.proofs.lemmas.List.{take_more, take_all}
-use Rattle.std.specs.Prelude.{flat_map, ◌≤ℤ◌}
+use Rattle.std.proofs.Common.{◌≡◌, ℕ, ◌+◌, ◌<◌, ◌≤◌, false, true, Bool, ◌||◌, nat_eq, List, [], ◌∷◌, ◌++◌, length, take, get_or, refl, sym, ap, ◌∙◌, subst, arith}
+use Rattle.std.proofs.lemmas.List.{take_more}
 use Rattle.std.specs.List.{AllByRecursion, list_any}
-use Rattle.hs_base.specs.declared.limits.TheConstants.{LAST}
 use Rattle.hs_base.specs.declared.plan.Time.{Time}
 use Rattle.hs_base.specs.declared.plan.Extension.{Extension}
-use Rattle.hs_base.specs.declared.mission.Mission.{Mission}
-use Rattle.hs_base.specs.declared.fault.Fault.{Fault}
-use Rattle.hs_base.specs.declared.fault.Fault.TheVariants.{Fixed}
-use Rattle.hs_base.specs.Walks.{EachAfter}
-use Rattle.hs_base.specs.Ranges.{whole, InRange}
 use Rattle.hs_base.specs.Points.{count}
 use Rattle.hs_base.specs.Bounds.{is_fixed}
-use Rattle.hs_base.specs.Checked.{fixed_of, KeepsFixedAt, KeepsFixed}
-use Rattle.hs_base.specs.Faults.{IsSinceWrong, BeforeFixed, IsFault}
+use Rattle.hs_base.specs.Checked.{KeepsFixedAt}
 use Rattle.base_laws.proofs.ListLemmas.{each_weaker, each_both}
 use Rattle.plan_check.specs.Fixing.{AreFlags, MayFix}
-use Rattle.plan_check.proofs.LoopLemmas.{first_break_at, each_more, each_all}
 
 -- the point of the last entry
 abbrev pub latest : List Time → ℕ

@@ -1,10 +1,9 @@
 -- Which needs are served, by rows and claims.
-use Rattle.std.proofs.Common.{◌≡◌, ℕ, zero, suc, ◌+◌, ◌-◌, ◌<◌, ◌≤◌, false, true, Bool, ◌&&◌, ◌||◌, nat_eq, List, [], ◌∷◌, ◌++◌, length, take, get_or, Option, Some, None, refl, sym, ap, ◌∙◌, subst, arith, inl, inr, append-nil, length-append, cond}
-use Rattle.std.proofs.lemmas.Bool.{cases_Bool, cases_lt, cases_eq, eqb-true, eq-eqb}
-use Rattle.std.proofs.lemmas.Bool.Decides.{nat_tests}
+use Rattle.std.proofs.Common.{◌≡◌, ℕ, ◌+◌, ◌-◌, ◌<◌, ◌≤◌, false, true, Bool, ◌&&◌, ◌||◌, nat_eq, List, [], ◌∷◌, length, take, get_or, Some, refl, sym, ap, ◌∙◌, subst, arith, inl, inr, length-append, cond}
+use Rattle.std.proofs.lemmas.Bool.{cases_Bool, cases_lt, eqb-true, eq-eqb}
 use Rattle.std.proofs.lemmas.Grind.{common_steps}
-use Rattle.std.proofs.lemmas.List.{take_more, take_all, get_or_past, length-take}
-use Rattle.std.proofs.lemmas.Option.{slice_get-get_or, slice_get_within, slice_get_past}
+use Rattle.std.proofs.lemmas.List.{get_or_past, length-take}
+use Rattle.std.proofs.lemmas.Option.{slice_get-get_or, slice_get_within}
 use Rattle.std.specs.Prelude.{slice_get, ◌⊎◌, Contains, filter}
 use Rattle.std.specs.List.{list_any}
 use Rattle.std.specs.HashSet as bag
@@ -19,7 +18,7 @@ use Rattle.hs_base.specs.declared.fault.Fault.{Fault}
 use Rattle.hs_base.specs.declared.fault.Fault.TheVariants.{Base, Limit as OverLimit, Order, Fixed, WrongSupport, Unsupported, Goal as NoGoal, Cycle, Memory as NoMemoryLeft}
 use Rattle.hs_base.specs.Points.{tokens_of, timeline_of, token_at}
 use Rattle.hs_base.specs.Needs.{same_kind, needs_of, need_of, need_at, is_deferrable}
-use Rattle.hs_base.specs.Checked.{joined, supports_of, IsLastToken, IsServed, IsNeedBefore, KeepsNeeds}
+use Rattle.hs_base.specs.Checked.{joined, supports_of, IsServed, IsNeedBefore, KeepsNeeds}
 use Rattle.hs_base.specs.Faults.{IsUnserved, IsFirstUnserved, BeforeNeed, IsFault}
 use Rattle.base_laws.proofs.ListLemmas.{slice_get-append_left}
 use Rattle.base_laws.proofs.PointLemmas.{timeline-append, tokens-push}

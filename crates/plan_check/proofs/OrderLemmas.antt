@@ -1,9 +1,9 @@
 -- Where a new token may stand.
-use Rattle.std.proofs.Common.{◌≡◌, ℕ, zero, suc, ◌+◌, ◌<◌, ◌≤◌, List, [], ◌∷◌, ◌++◌, length, take, drop, get_or, Some, refl, sym, ap, ◌∙◌, subst, arith, inl, inr, append_assoc, append-nil, length-append, nat_eq, ◌^◌}
+use Rattle.std.proofs.Common.{◌≡◌, ℕ, suc, ◌+◌, ◌<◌, ◌≤◌, List, [], ◌∷◌, ◌++◌, length, take, drop, get_or, Some, refl, sym, ap, ◌∙◌, subst, arith, inl, inr, append-nil, length-append, nat_eq, ◌^◌}
 use Rattle.std.proofs.lemmas.Bool.{cases_Bool}
 use Rattle.std.proofs.lemmas.List.{take_more, take_all, length-take}
 use Rattle.std.proofs.lemmas.Option.{slice_get_within, slice_get-get_or}
-use Rattle.std.specs.Prelude.{◌⊎◌, ◌-◌, slice_get}
+use Rattle.std.specs.Prelude.{◌-◌, slice_get}
 use Rattle.hs_base.specs.declared.mission.Var.{Var}
 use Rattle.hs_base.specs.Timelines.{MayFollow}
 use Rattle.std.specs.List.{AllByRecursion}
@@ -20,7 +20,7 @@ use Rattle.hs_base.specs.Missions.{IsMission}
 use Rattle.hs_base.specs.Faults.{IsMissingFirst, IsMisplaced, BeforeOrder, IsFault}
 use Rattle.base_laws.proofs.ListLemmas.{each_weaker, each_both, slice_get-split}
 use Rattle.base_laws.proofs.PointLemmas.{tokens-push}
-use Rattle.plan_check.specs.Lines.{row_of, AreLines, IsFirstEmpty}
+use Rattle.plan_check.specs.Lines.{row_of, AreLines}
 use Rattle.plan_check.specs.Standing.{MayStand, NoneMissing, IsStandFault}
 use Rattle.plan_check.proofs.LoopLemmas.{first_break, each_more}
 use Rattle.plan_check.proofs.WithinLemmas.{few_tokens}

@@ -1,9 +1,9 @@
 -- Which supports of an extension are right.
-use Rattle.std.proofs.Common.{◌≡◌, ℕ, zero, suc, ◌+◌, ◌*◌, ◌-◌, ◌<◌, ◌≤◌, ◌^◌, false, true, Bool, ◌&&◌, ◌||◌, not, nat_eq, List, [], ◌∷◌, ◌++◌, length, take, get_or, Option, Some, None, refl, sym, ap, ◌∙◌, subst, arith, inl, inr, append-nil, cond, length-append}
-use Rattle.std.proofs.lemmas.Bool.{cases_Bool, cases_lt, cases_eq, eqb-true, eq-eqb}
+use Rattle.std.proofs.Common.{◌≡◌, ℕ, zero, suc, ◌+◌, ◌*◌, ◌-◌, ◌<◌, ◌≤◌, false, true, Bool, ◌||◌, not, nat_eq, List, [], ◌∷◌, ◌++◌, length, take, get_or, Some, refl, sym, ap, ◌∙◌, subst, arith, inl, inr, cond, length-append}
+use Rattle.std.proofs.lemmas.Bool.{cases_Bool, cases_lt, eqb-true, eq-eqb}
 use Rattle.std.proofs.lemmas.Bool.Decides.{nat_tests}
 use Rattle.std.proofs.lemmas.Grind.{common_steps}
-use Rattle.std.proofs.lemmas.List.{take_more, take_all, get_or_past}
+use Rattle.std.proofs.lemmas.List.{take_more, get_or_past}
 use Rattle.std.proofs.lemmas.Option.{slice_get-get_or, slice_get_within, get_or_from_slice_get}
 use Rattle.std.specs.Prelude.{slice_get, ◌⊎◌, Contains, filter}
 use Rattle.std.specs.List.{AllByRecursion, list_any}
@@ -14,10 +14,8 @@ use Rattle.hs_base.specs.declared.mission.Need.{Need}
 use Rattle.hs_base.specs.declared.plan.Support.{Support}
 use Rattle.hs_base.specs.declared.plan.Extension.{Extension}
 use Rattle.hs_base.specs.declared.mission.Mission.{Mission}
-use Rattle.hs_base.specs.declared.fault.Fault.{Fault}
-use Rattle.hs_base.specs.declared.fault.Fault.TheVariants.{WrongSupport}
 use Rattle.hs_base.specs.Walks.{EachAfter}
-use Rattle.hs_base.specs.Points.{tokens_of, timeline_of, token_at}
+use Rattle.hs_base.specs.Points.{tokens_of, token_at}
 use Rattle.hs_base.specs.Needs.{same_kind, needs_of, need_of, need_at}
 use Rattle.hs_base.specs.Checked.{joined, supports_of, IsServing, IsSameNeed, IsNeedBefore, KeepsSupportAt, KeepsRules, KeepsLimits}
 use Rattle.hs_base.specs.Missions.{IsMission}
@@ -27,9 +25,8 @@ use Rattle.plan_check.proofs.WithinLemmas.{supports-push, few_tokens}
 use Rattle.base_laws.proofs.ListLemmas.{each_weaker, each_both, each_at, EachAfter-push, slice_get-take, each_after_at}
 use Rattle.plan_laws.proofs.ChainLemmas.{contained_at}
 use Rattle.plan_check.specs.Lines.{row_of, AreLines}
-use Rattle.plan_check.specs.Claimed.{is_claimed, is_for, AreClaims}
+use Rattle.plan_check.specs.Claimed.{is_for}
 use Rattle.plan_check.specs.Serving.{IsServingIn, IsBehindLast}
-use Rattle.plan_check.proofs.LoopLemmas.{first_break_at, each_more, each_all}
 
 -- a token by its row
 pub token_in : (vars : ℕ) (es : List Extension) (rows : List (List Kind)) (t : TokenRef) → AreLines vars (tokens_of es) rows → slice_get (row_of rows t.sv.0) t.place ≡ token_at es t

@@ -1,24 +1,19 @@
 -- What a plan that keeps its rules has.
-use Rattle.std.proofs.Common.{◌≡◌, ℕ, ◌+◌, ◌*◌, ◌<◌, ◌≤◌, ◌^◌, pos, List, [], ◌∷◌, ◌++◌, length, refl, sym, ap, ◌∙◌, subst, arith, append-nil, length-append}
+use Rattle.std.proofs.Common.{◌≡◌, ◌+◌, ◌*◌, ◌<◌, ◌≤◌, pos, List, [], ◌∷◌, ◌++◌, length, refl, sym, ap, ◌∙◌, subst, arith, append-nil, length-append}
 use Rattle.std.proofs.lemmas.Int.{ints}
 use Rattle.std.proofs.lemmas.Grind.{flat_map-append}
 use Rattle.std.proofs.lemmas.Option.{slice_get_within}
 use Rattle.std.specs.List.{AllByRecursion}
-use Rattle.hs_base.specs.declared.limits.TheConstants.{NEW_TOKENS, HORIZONS}
 use Rattle.hs_base.specs.declared.mission.Kind.{Kind}
 use Rattle.hs_base.specs.declared.plan.Time.{Time}
-use Rattle.hs_base.specs.declared.mission.Need.{Need}
-use Rattle.hs_base.specs.declared.plan.TokenRef.{TokenRef}
-use Rattle.hs_base.specs.declared.mission.Var.{Var}
 use Rattle.hs_base.specs.declared.plan.Extension.{Extension}
 use Rattle.hs_base.specs.declared.mission.Mission.{Mission}
 use Rattle.hs_base.specs.Walks.{EachAfter}
 use Rattle.hs_base.specs.Ranges.{whole, InRange}
 use Rattle.hs_base.specs.Missions.{IsKindOf, IsVar, IsMission}
 use Rattle.hs_base.specs.Points.{count, tokens_of, timeline_of}
-use Rattle.hs_base.specs.Needs.{need_at}
-use Rattle.hs_base.specs.Checked.{joined, fixed_of, supports_of, KeepsOrderAt, KeepsFixedAt, KeepsRules, KeepsNeeds, Checked}
-use Rattle.base_laws.proofs.ListLemmas.{snoc_induction, EachAfter-push, EachAfter-more, each_at, each_both, each_weaker}
+use Rattle.hs_base.specs.Checked.{fixed_of, supports_of, KeepsOrderAt, KeepsFixedAt, KeepsRules, KeepsNeeds, Checked}
+use Rattle.base_laws.proofs.ListLemmas.{snoc_induction, each_at, each_both, each_weaker}
 use Rattle.base_laws.proofs.PointLemmas.{tokens-push, count-push, count_is}
 use Rattle.plan_laws.proofs.ChainLemmas.{value_there}
 use Rattle.token_net.specs.Conditions.{IsWithin}

@@ -1,5 +1,5 @@
 -- Needs that no support serves and that may not wait, by the rows of the timelines.
-use Rattle.std.specs.Prelude.{◌≡◌, ℕ, ◌+◌, ◌-◌, ◌<◌, ◌≤◌, Bool, true, false, ◌&&◌, nat_eq, List, length, slice_get, Option, Some, None}
+use Rattle.std.specs.Prelude.{◌≡◌, ℕ, ◌+◌, ◌-◌, ◌<◌, ◌≤◌, Bool, false, ◌&&◌, nat_eq, List, length, slice_get, Option, Some, None}
 use Rattle.std.specs.HashSet as bag
 use Rattle.hs_base.specs.declared.ids.SvId.{SvId}
 use Rattle.hs_base.specs.declared.mission.Kind.{Kind}
@@ -7,7 +7,7 @@ use Rattle.hs_base.specs.declared.mission.Need.{Need}
 use Rattle.hs_base.specs.declared.mission.Mission.{Mission}
 use Rattle.hs_base.specs.declared.plan.TokenRef.{TokenRef}
 use Rattle.hs_base.specs.declared.fault.Fault.{Fault}
-use Rattle.hs_base.specs.declared.fault.Fault.TheVariants.{Base, Limit, Order, Fixed, WrongSupport, Unsupported, Goal, Cycle, Memory}
+use Rattle.hs_base.specs.declared.fault.Fault.TheVariants.{Unsupported}
 use Rattle.hs_base.specs.Points.{timeline_of}
 use Rattle.hs_base.specs.Needs.{needs_of, is_deferrable}
 use Rattle.plan_check.specs.Lines.{row_of}

@@ -3,7 +3,7 @@ use Rattle.std.specs.Prelude.{List}
 use Rattle.hs_base.specs.declared.mission.Mission.{Mission}
 use Rattle.hs_base.specs.declared.plan.Extension.{Extension}
 use Rattle.hs_base.specs.declared.fault.Fault.{Fault}
-use Rattle.hs_base.specs.declared.fault.Fault.TheVariants.{Base, Limit, Order, Fixed, WrongSupport, Unsupported, Goal, Cycle, Memory}
+use Rattle.hs_base.specs.declared.fault.Fault.TheVariants.{Cycle, Memory}
 use Rattle.hs_base.specs.Cycles.{IsNegativeCycle}
 use Rattle.hs_base.specs.Bounds.{bounds_of}
 

@@ -1,10 +1,10 @@
 -- Where a new token may stand, by the rows of the timelines.
-use Rattle.std.specs.Prelude.{◌≡◌, ◌⊎◌, ℕ, ◌<◌, ◌≤◌, List, [], ◌∷◌, length, slice_get, Some}
+use Rattle.std.specs.Prelude.{◌≡◌, ◌⊎◌, ℕ, ◌<◌, ◌≤◌, List, [], length, slice_get, Some}
 use Rattle.hs_base.specs.declared.mission.Kind.{Kind}
 use Rattle.hs_base.specs.declared.mission.Var.{Var}
 use Rattle.hs_base.specs.declared.mission.Mission.{Mission}
 use Rattle.hs_base.specs.declared.fault.Fault.{Fault}
-use Rattle.hs_base.specs.declared.fault.Fault.TheVariants.{Base, Limit, Order, Fixed, WrongSupport, Unsupported, Goal, Cycle, Memory}
+use Rattle.hs_base.specs.declared.fault.Fault.TheVariants.{Order}
 use Rattle.hs_base.specs.Checked.{MayStandBehind}
 use Rattle.plan_check.specs.Lines.{row_of}
 

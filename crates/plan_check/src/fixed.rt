@@ -1,7 +1,6 @@
 ghost use Rattle.std.specs.Prelude.{◌≡◌, ℕ, ◌<◌, ◌^◌, ◌↔◌, ◌||◌, false, nat_eq, length, get_or, All, IsTrue, IfOk, OnOk, IfErr};
 ghost use Rattle.std.specs.List.{AllByRecursion, list_any};
 ghost use Rattle.hs_base.specs.Points.{count};
-ghost use Rattle.hs_base.specs.Bounds.{is_fixed};
 ghost use Rattle.hs_base.specs.Checked.{fixed_of, Checked, KeepsFixed};
 ghost use Rattle.hs_base.specs.Faults.{BeforeFixed, IsFault};
 ghost use Rattle.plan_check.specs.Fixing.{AreFlags, MayFix};

@@ -1,4 +1,4 @@
-ghost use Rattle.std.specs.Prelude.{◌≡◌, ◌↔◌, filter, slice_get, is_some, option_copied, IsTrue, Contains};
+ghost use Rattle.std.specs.Prelude.{◌≡◌, filter, slice_get, is_some, option_copied};
 ghost use Rattle.hs_base.specs.Needs.{same_kind, needs_of, choice_by, may_wait, is_deferrable};
 
 use hs_base::{Choice, Kind, Mission, Need, Relation};

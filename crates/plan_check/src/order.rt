@@ -1,5 +1,5 @@
-ghost use Rattle.std.specs.Prelude.{◌≡◌, ◌+◌, ◌<◌, ◌^◌, ◌↔◌, length, IsTrue, OnOk, IfOk, IfErr};
-ghost use Rattle.hs_base.specs.Points.{count, tokens_of};
+ghost use Rattle.std.specs.Prelude.{◌<◌, ◌^◌, ◌↔◌, length, IsTrue, OnOk, IfOk, IfErr};
+ghost use Rattle.hs_base.specs.Points.{tokens_of};
 ghost use Rattle.hs_base.specs.Timelines.{MayFollow};
 ghost use Rattle.hs_base.specs.Checked.{joined, Checked, MayStandBehind, KeepsOrder};
 ghost use Rattle.hs_base.specs.Faults.{BeforeOrder, IsFault};

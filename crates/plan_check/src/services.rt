@@ -1,4 +1,4 @@
-ghost use Rattle.std.specs.Prelude.{◌≡◌, length, OnOk, IfErr};
+ghost use Rattle.std.specs.Prelude.{length, OnOk, IfErr};
 ghost use Rattle.hs_base.specs.Points.{tokens_of};
 ghost use Rattle.hs_base.specs.Checked.{joined, Checked, KeepsSupports, KeepsNeeds};
 ghost use Rattle.hs_base.specs.Faults.{BeforeSupport, IsFault};

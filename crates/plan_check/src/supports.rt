@@ -1,4 +1,4 @@
-ghost use Rattle.std.specs.Prelude.{◌≡◌, ◌+◌, ◌<◌, ◌^◌, ◌↔◌, length, slice_get, Some, IsTrue, IfOk, OnOk, IfErr};
+ghost use Rattle.std.specs.Prelude.{◌≡◌, ◌<◌, ◌↔◌, length, slice_get, Some, IsTrue, IfOk, OnOk, IfErr};
 ghost use Rattle.hs_base.specs.declared.plan.Support.{Support};
 ghost use Rattle.hs_base.specs.Points.{tokens_of};
 ghost use Rattle.hs_base.specs.Checked.{joined, supports_of, Checked, IsNeedBefore, KeepsSupports};

@@ -1,6 +1,6 @@
-ghost use Rattle.std.specs.Prelude.{◌≡◌, ◌+◌, ◌<◌, ◌^◌, ◌++◌, [], ◌∷◌, length, replicate, slice_set, slice_get, is_some, option_copied, IfOk, OnOk, IfSome};
+ghost use Rattle.std.specs.Prelude.{◌≡◌, ◌+◌, ◌<◌, ◌++◌, [], ◌∷◌, length, slice_set, slice_get, IfOk, OnOk};
 ghost use Rattle.std.specs.List.{AllByRecursion};
-ghost use Rattle.hs_base.specs.Points.{tokens_of, timeline_of};
+ghost use Rattle.hs_base.specs.Points.{tokens_of};
 ghost use Rattle.plan_check.specs.Lines.{row_of, AreLines, AreMore, IsFirstEmpty};
 
 use hs_base::{Extension, Kind, List, Memory, SvId, TokenRef};

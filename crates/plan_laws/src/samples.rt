@@ -1,4 +1,4 @@
-ghost use Rattle.std.specs.Prelude.{◌≡◌, ℕ, true, false, pos, List, [], ◌∷◌, length, map, Some, None};
+ghost use Rattle.std.specs.Prelude.{◌≡◌, true, false, pos, [], ◌∷◌, length, map, Some, None};
 ghost use Rattle.hs_base.specs.declared.net.Net.{Net};
 ghost use Rattle.hs_base.specs.declared.history.Phase.TheVariants.{Waiting, Running};
 ghost use Rattle.hs_base.specs.Schedule.{MeetsList, numbers_from};

@@ -1,5 +1,5 @@
 -- A flaw has few resolvers, so that the numbers of children fit.
-use Rattle.std.proofs.Common.{◌≡◌, ◌≢◌, ℕ, zero, suc, ◌+◌, ◌*◌, ◌<◌, ◌≤◌, ◌^◌, true, false, Bool, List, [], ◌∷◌, ◌++◌, cond, filter, flat_map, length, length-append, map, nat_eq, nat_le, not, slice_get, Option, Some, None, ◌&&◌, ◌⊎◌, refl, sym, ap, ◌∙◌, subst, arith, inl, inr}
+use Rattle.std.proofs.Common.{◌≡◌, ◌≢◌, ℕ, zero, suc, ◌+◌, ◌*◌, ◌<◌, ◌≤◌, true, false, Bool, List, [], ◌∷◌, ◌++◌, cond, filter, flat_map, length, length-append, map, nat_eq, nat_le, not, slice_get, Option, Some, None, ◌&&◌, ◌⊎◌, refl, sym, ap, ◌∙◌, subst, arith, inl, inr}
 use Rattle.std.proofs.lemmas.Bool.{cases_Bool, cases_eq, eq-eqb, eqb-true, false≢true}
 use Rattle.std.specs.List.{AllByRecursion}
 use Rattle.hs_base.specs.Bounds.{goals_of, on_some}

@@ -1,5 +1,5 @@
 -- The turns of a search.
-use Rattle.std.proofs.Common.{◌≡◌, ◌⊎◌, ℕ, zero, suc, ◌+◌, ◌-◌, ◌<◌, ◌≤◌, true, false, Bool, List, [], ◌∷◌, ◌++◌, append-nil, append_assoc, drop, length, length-append, map, slice_get, take, Some, refl, sym, ap, ◌∙◌, subst, arith, inl, inr}
+use Rattle.std.proofs.Common.{◌≡◌, ℕ, zero, suc, ◌+◌, ◌-◌, ◌<◌, ◌≤◌, true, false, Bool, List, [], ◌∷◌, ◌++◌, append-nil, append_assoc, drop, length, length-append, slice_get, take, Some, refl, sym, ap, ◌∙◌, subst, arith, inl, inr}
 use Rattle.std.proofs.lemmas.Bool.{false≢true}
 use Rattle.std.proofs.lemmas.List.{length-take-le}
 use Rattle.std.specs.List.{AllByRecursion}
@@ -9,7 +9,6 @@ use Rattle.hs_base.specs.declared.mission.Mission.{Mission}
 use Rattle.hs_base.specs.declared.plan.Extension.{Extension}
 use Rattle.base_laws.proofs.ListLemmas.{EachAfter-more, EachAfter-push, each_both, each_weaker}
 use Rattle.plan_search.specs.Searched.{IsFrame, IsSearched, Reaches, left_below, node_of, path_to, plan_at}
-use Rattle.plan_search.specs.Visits.{IsComplete, IsFirstFrame}
 use Rattle.plan_search.specs.declared.frames.Frame.{Frame}
 use Rattle.search_laws.proofs.TreeLemmas.{finished_checked, walk_made}
 use Rattle.search_laws.proofs.WalkLemmas.{preorder_more}
@@ -17,7 +16,7 @@ use Rattle.search_tree.specs.Begun.{Begun}
 use Rattle.search_tree.specs.Extends.{extension}
 use Rattle.search_tree.specs.Flaws.{flat_map_from, flaws}
 use Rattle.search_tree.specs.Outset.{MayBegin}
-use Rattle.search_tree.specs.Partial.{Partial, begin}
+use Rattle.search_tree.specs.Partial.{begin}
 use Rattle.search_tree.specs.PartialBounds.{HasSchedule}
 use Rattle.search_tree.specs.Parts.{do_parts}
 use Rattle.search_tree.specs.Resolvers.{resolve, resolvers}
@@ -27,7 +26,6 @@ use Rattle.search_tree.specs.declared.flaw.Flaw.{Flaw}
 use Rattle.search_tree.specs.declared.flaw.Resolver.{Resolver}
 use Rattle.search_tree.specs.declared.part.Part.{Part}
 use Rattle.timeline_db.specs.Heads.{IsHead}
-use Rattle.timeline_db.specs.Plannings.{Planning, partial_of}
 
 path-push : (fs : List Frame) (g : Frame) → path_to (fs ++ g ∷ []) ≡ path_to fs ++ (g.next - 1) ∷ []
 path-push [] g = refl

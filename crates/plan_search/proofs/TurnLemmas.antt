@@ -1,5 +1,5 @@
 -- A turn of the search over what its parts are promised.
-use Rattle.std.proofs.Common.{◌≡◌, ℕ, suc, ◌+◌, ◌<◌, ◌≤◌, ◌^◌, true, false, Bool, List, [], ◌∷◌, ◌++◌, append-nil, drop, length, length-append, slice_get, take, Ok, Err, Result, Some, inl, inr, refl, sym, ap, ◌∙◌, subst, arith}
+use Rattle.std.proofs.Common.{◌≡◌, ℕ, ◌+◌, ◌<◌, ◌≤◌, ◌^◌, true, false, Bool, List, [], ◌∷◌, ◌++◌, append-nil, drop, length, slice_get, take, Ok, Err, Result, Some, inl, inr, refl, sym, ap, ◌∙◌, subst, arith}
 use Rattle.std.proofs.lemmas.Bool.{cases_eq, false≢true}
 use Rattle.std.proofs.lemmas.List.{length-take-le, take-append-drop}
 use Rattle.std.proofs.lemmas.Option.{slice_get-get_or}
@@ -25,7 +25,7 @@ use Rattle.search_tree.specs.Partial.{begin}
 use Rattle.search_tree.specs.PartialBounds.{HasSchedule}
 use Rattle.search_tree.specs.Parts.{do_parts}
 use Rattle.search_tree.specs.Resolvers.{parts_of, resolve, resolvers}
-use Rattle.search_tree.specs.Search.{FindsWhere, Node}
+use Rattle.search_tree.specs.Search.{FindsWhere}
 use Rattle.search_tree.specs.Tree.{budget}
 use Rattle.search_tree.specs.declared.flaw.Resolver.{Resolver}
 use Rattle.search_tree.specs.declared.flaw.Resolver.TheVariants.{Defer}

@@ -1,5 +1,5 @@
 -- What a visit of a node finds.
-use Rattle.std.specs.Prelude.{Bool, List, [], false, true, ℕ, ◌≡◌, ◌<◌, length}
+use Rattle.std.specs.Prelude.{Bool, List, [], false, true, ◌≡◌, length}
 use Rattle.hs_base.specs.Checked.{joined}
 use Rattle.hs_base.specs.declared.mission.Mission.{Mission}
 use Rattle.hs_base.specs.declared.plan.Extension.{Extension}

@@ -1,4 +1,4 @@
-ghost use Rattle.std.specs.Prelude.{List, [], ℕ, IfErr, IfNone, IfOk, IfSome, OnOk, length, ◌++◌, ◌+◌, ◌<◌, ◌∷◌, ◌≡◌, ◌≤◌};
+ghost use Rattle.std.specs.Prelude.{List, [], ℕ, IfNone, IfOk, IfSome, OnOk, length, ◌++◌, ◌+◌, ◌<◌, ◌∷◌, ◌≡◌, ◌≤◌};
 ghost use Rattle.plan_check.specs.Seen.{seen};
 ghost use Rattle.plan_search.specs.Descends.{Descends, is_memory, plan_of};
 ghost use Rattle.plan_search.specs.Searched.{IsSearched, Reaches, path_to};

@@ -1,4 +1,4 @@
-ghost use Rattle.std.specs.Prelude.{[], IfErr, IfOk, ◌≡◌};
+ghost use Rattle.std.specs.Prelude.{[], IfOk, ◌≡◌};
 ghost use Rattle.hs_base.specs.Checked.{Checked, joined};
 ghost use Rattle.search_tree.specs.Extends.{extension};
 ghost use Rattle.search_tree.specs.Flaws.{flaws};

@@ -1,4 +1,4 @@
-ghost use Rattle.std.specs.Prelude.{◌≡◌, ℕ, List, [], flat_map, length, IfOk};
+ghost use Rattle.std.specs.Prelude.{◌≡◌, List, [], flat_map, length, IfOk};
 ghost use Rattle.std.specs.List.{AllZip};
 ghost use Rattle.hs_base.specs.declared.plan.Extension.{Extension};
 ghost use Rattle.hs_base.specs.Points.{points_of};

@@ -1,4 +1,4 @@
-ghost use Rattle.std.specs.Prelude.{◌≡◌, ℕ, ◌+◌, ◌<◌, List, [], ◌∷◌, ◌++◌, length, fold, replicate, slice_get, IfOk, OnOk};
+ghost use Rattle.std.specs.Prelude.{◌≡◌, ℕ, ◌+◌, ◌<◌, List, [], fold, slice_get, IfOk, OnOk};
 ghost use Rattle.hs_base.specs.Points.{Point, horizon as horizon_spec, ending, place_of, points_of};
 ghost use Rattle.plan_text.specs.Named.{with_horizon, with_end, with_extension};
 ghost use Rattle.plan_text.specs.Numbers.{AreNumbers};

@@ -1,6 +1,6 @@
 ghost use Rattle.std.specs.Prelude.{◌≡◌, ◌++◌, ◌^◌, ◌<◌, ◌≤◌, length, IfOk, OnOk};
 ghost use Rattle.hs_base.specs.declared.limits.TheConstants.{TEXT_BYTES};
-ghost use Rattle.hs_base.specs.Points.{Point, count, points_of};
+ghost use Rattle.hs_base.specs.Points.{count};
 ghost use Rattle.hs_base.specs.PlanText.{extension_in, plan_text};
 ghost use Rattle.hs_base.specs.Written.{point_text as text_of_point};
 ghost use Rattle.text_laws.specs.WritablePlans.{IsWritablePlan};

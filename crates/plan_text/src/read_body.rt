@@ -1,7 +1,5 @@
-ghost use Rattle.std.specs.Prelude.{◌≡◌, codes};
-ghost use Rattle.text_laws.specs.Parsers.{is_word, many};
 ghost use Rattle.plan_text.specs.PlanReading.{fix_at, fixed_points_at, goal_at, goals_at, body_at, extension_at, extensions_at, plan_at};
-ghost use Rattle.plan_text.specs.Answers.{Gives, Keeps};
+ghost use Rattle.plan_text.specs.Answers.{Keeps};
 
 use crate::reader::PlanReader;
 use crate::stop::Stop;

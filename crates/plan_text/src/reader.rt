@@ -1,4 +1,4 @@
-ghost use Rattle.std.specs.Prelude.{◌≡◌, ◌+◌, pos, length, codes, IfOk};
+ghost use Rattle.std.specs.Prelude.{◌≡◌, pos, length, codes, IfOk};
 ghost use Rattle.hs_base.specs.Languages.{word_says};
 ghost use Rattle.text_laws.specs.Parsers.{next, one, is_word, many, number};
 ghost use Rattle.text_laws.specs.MissionReading.{name_at};

@@ -1,4 +1,4 @@
-ghost use Rattle.std.specs.Prelude.{◌≡◌, ℕ, List, ◌∷◌, ◌++◌, ◌+◌, [], OnOk, IfOk, map, length, slice_get};
+ghost use Rattle.std.specs.Prelude.{◌≡◌, ℕ, List, ◌∷◌, ◌++◌, ◌+◌, [], OnOk, IfOk, slice_get};
 ghost use Rattle.plan_text.specs.WrittenPlan.{has_point, may_be_fixed as may_be_fixed_spec, point_size as point_size_spec};
 ghost use Rattle.plan_text.specs.declared.written.WrittenPoint.TheVariants.{End, Horizon};
 ghost use Rattle.plan_text.specs.SoFar.{Counts, variable_at as variable_at_spec, names_of_kinds};

@@ -1,4 +1,4 @@
-ghost use Rattle.std.specs.Prelude.{◌≡◌, ◌<◌, ◌≤◌, ◌++◌, [], ◌∷◌, cond, length, map, filter, All, IfOk, OnOk};
+ghost use Rattle.std.specs.Prelude.{◌≡◌, ◌<◌, ◌≤◌, ◌++◌, [], ◌∷◌, cond, map, filter, All, IfOk, OnOk};
 ghost use Rattle.hs_base.specs.Schedule.{numbers_from};
 ghost use Rattle.hs_base.specs.Reduced.{leaders, group_of};
 ghost use Rattle.stn_distance.specs.Distances.{weight};

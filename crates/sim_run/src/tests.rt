@@ -1,7 +1,7 @@
-ghost use Rattle.std.specs.Prelude.{◌≡◌, [], ◌∷◌, pos, codes, length, IfOk};
+ghost use Rattle.std.specs.Prelude.{◌≡◌, [], length, IfOk};
 ghost use Rattle.hs_base.specs.declared.limits.TheConstants.{LAST};
 ghost use Rattle.hs_base.specs.Ranges.{range};
-ghost use Rattle.base_laws.specs.Samples.{smallest, plain_value, value_id};
+ghost use Rattle.base_laws.specs.Samples.{smallest, plain_value};
 
 use super::*;
 use base_laws::the_smallest_mission_is_one;

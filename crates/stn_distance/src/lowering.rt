@@ -1,4 +1,4 @@
-ghost use Rattle.std.specs.Prelude.{◌≡◌, ◌<◌, ◌≤◌, length, All};
+ghost use Rattle.std.specs.Prelude.{◌≡◌, ◌<◌, ◌≤◌, All};
 ghost use Rattle.stn_distance.specs.Ranges.{IsInRange};
 ghost use Rattle.stn_distance.specs.Causes.{Explained, IsAboveFloor, TurnFinds, place};
 

@@ -1,4 +1,4 @@
-ghost use Rattle.std.specs.Prelude.{◌≡◌, ℕ, ◌<◌, length, pos, ◌<ℤ◌, true, IfOk, IfSome};
+ghost use Rattle.std.specs.Prelude.{◌≡◌, ◌<◌, true, IfOk, IfSome};
 ghost use Rattle.stn_trail.specs.Rows.{IsIn, AreRows};
 ghost use Rattle.stn_trail.specs.Rounds.{cause_at, IsRound};
 

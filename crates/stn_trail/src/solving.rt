@@ -1,4 +1,4 @@
-ghost use Rattle.std.specs.Prelude.{◌≡◌, ◌<◌, ◌≤◌, length, All, vec_len, IfOk, IfErr, OnOk};
+ghost use Rattle.std.specs.Prelude.{◌≡◌, ◌<◌, ◌≤◌, All, vec_len, IfOk, IfErr, OnOk};
 ghost use Rattle.hs_base.specs.Schedule.{time_of, Meets, HasNoSchedule};
 ghost use Rattle.stn_distance.specs.Ranges.{IsInRange};
 ghost use Rattle.hs_base.specs.Cycles.{IsNegativeCycle};

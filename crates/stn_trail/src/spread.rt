@@ -1,4 +1,4 @@
-ghost use Rattle.std.specs.Prelude.{◌≡◌, ◌<◌, ◌≤◌, [], All, length, drop, vec_len, IfOk, OnOk};
+ghost use Rattle.std.specs.Prelude.{◌≡◌, ◌<◌, ◌≤◌, [], length, drop, vec_len, IfOk};
 ghost use Rattle.hs_base.specs.Schedule.{time_of};
 ghost use Rattle.stn_trail.specs.Moves.{KeepsPast};
 ghost use Rattle.stn_trail.specs.Rows.{row_at, AreRows};

@@ -1,4 +1,4 @@
-ghost use Rattle.std.specs.Prelude.{◌≡◌, ℕ, ◌+◌, ◌-◌, ◌<◌, ◌≤◌, [], ◌∷◌, ◌++◌, length, replicate, vec_len, IfOk, IfErr, OnOk, OnErr};
+ghost use Rattle.std.specs.Prelude.{◌≡◌, ◌+◌, ◌-◌, ◌<◌, ◌≤◌, [], ◌∷◌, ◌++◌, length, replicate, vec_len, IfOk, IfErr, OnOk, OnErr};
 ghost use Rattle.hs_base.specs.Schedule.{time_of, HasNoSchedule};
 ghost use Rattle.stn_distance.specs.Ranges.{IsInRange};
 ghost use Rattle.hs_base.specs.Cycles.{IsNegativeCycle};

@@ -1,8 +1,7 @@
-ghost use Rattle.std.specs.Prelude.{◌≡◌, ℕ, suc, ◌+◌, ◌<◌, ◌≤◌, ◌^◌, ◌&&◌, ◌||◌, nat_eq, nat_lt, false, true, length, OnErr, OnOk};
+ghost use Rattle.std.specs.Prelude.{◌≡◌, suc, ◌+◌, ◌<◌, ◌≤◌, ◌^◌, ◌&&◌, ◌||◌, nat_eq, length, OnErr, OnOk};
 ghost use Rattle.std.specs.List.{list_any};
-ghost use Rattle.hs_base.specs.Checked.{supports_of};
 ghost use Rattle.timeline_db.specs.Boards.{ChangesRow, HasPlace, HasToken, Puts, TakesOut, line_at, token_of};
-ghost use Rattle.timeline_db.specs.Lines.{with_joined, with_unmet};
+ghost use Rattle.timeline_db.specs.Lines.{with_joined};
 ghost use Rattle.timeline_db.specs.Serving.{IsFirstUnmet, is_settled, is_served_at};
 ghost use Rattle.timeline_db.specs.Settling.{Reopens, Settles};
 

@@ -1,4 +1,4 @@
-ghost use Rattle.std.specs.Prelude.{◌≡◌, ℕ, ℤ, ◌≤ℤ◌, ◌<ℤ◌, ◌++◌, [], ◌∷◌, pos, neg_ℤ, cond, OnOk};
+ghost use Rattle.std.specs.Prelude.{◌≡◌, ℤ, ◌≤ℤ◌, ◌++◌, [], ◌∷◌, pos, neg_ℤ, cond, OnOk};
 ghost use Rattle.hs_base.specs.Bounds.{apart, exactly, on_some, relation_bounds, together};
 ghost use Rattle.hs_base.specs.Missions.{HasRanges, IsMission};
 ghost use Rattle.hs_base.specs.Points.{value_of};

@@ -1,4 +1,4 @@
-ghost use Rattle.std.specs.Prelude.{◌≡◌, ℕ, ◌+◌, ◌-◌, ◌<◌, ◌≤◌, [], ◌∷◌, ◌++◌, All, Some, length, map, replicate, slice_get, take, IfErr, IfNone, IfOk, IfSome, OnErr, OnOk};
+ghost use Rattle.std.specs.Prelude.{◌≡◌, ◌+◌, ◌-◌, ◌<◌, ◌≤◌, [], ◌∷◌, ◌++◌, All, Some, length, map, replicate, slice_get, take, IfErr, IfNone, OnErr, OnOk};
 ghost use Rattle.hs_base.specs.Schedule.{HasNoSchedule};
 ghost use Rattle.stn_distance.specs.Ranges.{IsInRange};
 ghost use Rattle.stn_trail.specs.Held.{Appends, IsKept, Leaves, bounds_of, points_of};

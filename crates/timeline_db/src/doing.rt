@@ -1,4 +1,4 @@
-ghost use Rattle.std.specs.Prelude.{◌≡◌, ◌<◌, ◌≤◌, ◌≢◌, suc, false, true, Err, IfErr, IfOk, OnErr, OnOk};
+ghost use Rattle.std.specs.Prelude.{◌≡◌, ◌<◌, suc, false, true, Err, IfErr, IfOk, OnErr, OnOk};
 ghost use Rattle.search_tree.specs.Resolvers.{has_room};
 ghost use Rattle.search_tree.specs.declared.part.Part.TheVariants.{Finished, Followed, Inserted, Joined};
 ghost use Rattle.timeline_db.specs.Plannings.{Does, IsOpen, MayDoNow, WouldShut, partial_of};

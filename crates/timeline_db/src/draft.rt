@@ -1,4 +1,4 @@
-ghost use Rattle.std.specs.Prelude.{◌≡◌, ℕ, suc, ◌+◌, ◌<◌, ◌≤◌, ◌^◌, ◌≤ℤ◌, ◌+ℤ◌, [], ◌∷◌, ◌++◌, All, neg_ℤ, pos, true, length, IfErr, OnErr, OnOk};
+ghost use Rattle.std.specs.Prelude.{◌≡◌, suc, ◌+◌, ◌<◌, ◌≤◌, ◌^◌, ◌≤ℤ◌, ◌+ℤ◌, [], ◌∷◌, ◌++◌, All, neg_ℤ, pos, true, length, IfErr, OnErr, OnOk};
 ghost use Rattle.hs_base.specs.Bounds.{together};
 ghost use Rattle.hs_base.specs.Missions.{IsMission};
 ghost use Rattle.hs_base.specs.Ranges.{InRange, whole};

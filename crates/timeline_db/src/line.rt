@@ -1,4 +1,4 @@
-ghost use Rattle.std.specs.Prelude.{◌≡◌, ◌+◌, ◌-◌, ◌<◌, ◌≤◌, ◌↔◌, [], ◌∷◌, ◌++◌, false, drop, length, insert, remove, set, slice_get, slice_set, slice_index_or, IfOk, IfSome, IfNone, IsTrue, OnOk, OnErr};
+ghost use Rattle.std.specs.Prelude.{◌≡◌, ◌+◌, ◌-◌, ◌<◌, ◌≤◌, [], false, drop, length, insert, remove, set, OnOk, OnErr};
 ghost use Rattle.timeline_db.specs.Lines.{with_joined, with_unmet, with_needs, how_many, is_waiting, is_gap, end_of, IsFirstOf, PushesGiven};
 
 use crate::Token;

@@ -1,7 +1,6 @@
-ghost use Rattle.std.specs.Prelude.{◌≡◌, ◌+◌, ◌<◌, ◌≤◌, nat_le, suc, Some, None, length, slice_get, option_copied, option_map, IfNone, IfSome};
-ghost use Rattle.hs_base.specs.Bounds.{goals_of, on_some};
+ghost use Rattle.std.specs.Prelude.{◌≡◌, ◌+◌, ◌<◌, ◌≤◌, nat_le, Some, None, length, slice_get, option_copied, option_map, IfNone, IfSome};
+ghost use Rattle.hs_base.specs.Bounds.{goals_of};
 ghost use Rattle.hs_base.specs.Needs.{needs_of};
-ghost use Rattle.hs_base.specs.Points.{value_of};
 ghost use Rattle.hs_base.specs.declared.limits.TheConstants.{FREE_POINTS};
 ghost use Rattle.search_tree.specs.Begun.{number};
 ghost use Rattle.search_tree.specs.May.{IsThere};

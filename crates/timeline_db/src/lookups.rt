@@ -1,4 +1,4 @@
-ghost use Rattle.std.specs.Prelude.{◌≡◌, ◌&&◌, ◌≤◌, nat_eq, suc, length, filter, slice_get, option_copied};
+ghost use Rattle.std.specs.Prelude.{◌≡◌, ◌&&◌, ◌≤◌, suc, length, filter, slice_get, option_copied};
 ghost use Rattle.std.specs.List.{list_any};
 ghost use Rattle.hs_base.specs.Checked.{supports_of};
 ghost use Rattle.hs_base.specs.Needs.{same_kind, needs_of, choice_by};

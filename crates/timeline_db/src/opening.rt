@@ -1,5 +1,5 @@
 ghost use Rattle.std.specs.List.{AllByRecursion, list_any};
-ghost use Rattle.std.specs.Prelude.{◌≡◌, ℕ, ◌+◌, ◌<◌, ◌≤◌, ◌^◌, ◌≤ℤ◌, ◌||◌, All, [], ◌∷◌, ◌++◌, cond, false, flat_map, get_or, length, map, nat_eq, neg_ℤ, option_map, pos, slice_get, suc, unwrap_or, IfOk, OnOk};
+ghost use Rattle.std.specs.Prelude.{◌≡◌, ℕ, ◌+◌, ◌<◌, ◌≤◌, ◌^◌, ◌≤ℤ◌, ◌||◌, All, [], ◌∷◌, ◌++◌, cond, false, flat_map, get_or, length, map, nat_eq, neg_ℤ, option_map, pos, slice_get, unwrap_or, IfOk, OnOk};
 ghost use Rattle.hs_base.specs.Bounds.{apart, fixed_bounds, is_fixed, on_some};
 ghost use Rattle.hs_base.specs.Checked.{fixed_of};
 ghost use Rattle.hs_base.specs.Missions.{IsMission};
@@ -14,7 +14,6 @@ ghost use Rattle.search_tree.specs.Partial.{begin};
 ghost use Rattle.search_tree.specs.PartialBounds.{begun_bounds, root_bounds};
 ghost use Rattle.stn_distance.specs.Ranges.{IsInRange};
 ghost use Rattle.stn_trail.specs.declared.part.Part.TheVariants.{Added};
-ghost use Rattle.timeline_db.specs.Kept.{tick_of};
 ghost use Rattle.timeline_db.specs.Lines.{row_of};
 ghost use Rattle.timeline_db.specs.Opening.{line_bounds, own_bounds};
 ghost use Rattle.timeline_db.specs.Plannings.{IsOpen};

@@ -1,4 +1,4 @@
-ghost use Rattle.std.specs.Prelude.{◌≡◌, ℕ, suc, ◌+◌, ◌<◌, ◌≤◌, [], ◌∷◌, ◌++◌, All, Some, length, set, slice_get, IfErr, OnErr, OnOk};
+ghost use Rattle.std.specs.Prelude.{◌≡◌, suc, ◌+◌, ◌<◌, ◌≤◌, [], ◌∷◌, ◌++◌, All, Some, length, set, slice_get, IfErr, OnErr, OnOk};
 ghost use Rattle.hs_base.specs.Bounds.{goals_of, on_some};
 ghost use Rattle.hs_base.specs.Missions.{IsMission};
 ghost use Rattle.hs_base.specs.Schedule.{HasNoSchedule};

@@ -1,5 +1,5 @@
-ghost use Rattle.std.specs.Prelude.{◌≡◌, ◌+◌, ◌<◌, ◌≤◌, ◌^◌, IfOk, IfErr, length, slice_get, option_copied};
-ghost use Rattle.hs_base.specs.Points.{count, points_of, place_of, ending, start, stop, hor, is_observed, timeline_of, value_of};
+ghost use Rattle.std.specs.Prelude.{◌≡◌, ◌+◌, ◌<◌, ◌≤◌, ◌^◌, IfOk, IfErr, length, slice_get};
+ghost use Rattle.hs_base.specs.Points.{count, points_of, place_of, ending, start, stop, hor, is_observed, timeline_of};
 ghost use Rattle.token_net.specs.Ends.{kind_ending, IsNth};
 
 use crate::lookups::value_at;

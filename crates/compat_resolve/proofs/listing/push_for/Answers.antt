@@ -1,7 +1,3 @@
-use Rattle.std.proofs.Common.{List, ap, arith, length, slice_get, sym, Some, ◌∙◌}
-use Rattle.search_tree.specs.Flaws.{flaws}
-use Rattle.search_tree.specs.declared.flaw.Flaw.{Flaw}
-use Rattle.timeline_db.specs.Plannings.{partial_of}
 use Rattle.compat_resolve.proofs.LineLemmas.{need_there, slot_there}
 use Rattle.compat_resolve.proofs.listing.push_for.Goals as goal
 

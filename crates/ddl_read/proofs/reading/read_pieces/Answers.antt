@@ -1,7 +1,5 @@
-use Rattle.std.proofs.Common.{ap, ◌∙◌, subst, List, ℕ, arith}
+use Rattle.std.proofs.Common.{ap, ◌∙◌, arith}
 use Rattle.text_laws.specs.MissionReading.{mission_at}
-use Rattle.ddl_read.specs.declared.piece.Piece.{Piece}
-use Rattle.ddl_read.specs.Spelled.{AreSpelled}
 use Rattle.ddl_read.proofs.ReadLemmas.{are_spelled, left_of_read, left_of_stuck, spells_front, expected_in, begins_with}
 use Rattle.ddl_read.proofs.reading.read_pieces.Goals as goal
 

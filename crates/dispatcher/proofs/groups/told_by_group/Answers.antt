@@ -1,4 +1,4 @@
-use Rattle.std.proofs.Common.{◌≡◌, ap, arith, pos, w64, FitsSigned, to_z, of_z, get_or, rules, Some, length}
+use Rattle.std.proofs.Common.{arith, w64, FitsSigned, length}
 use Rattle.std.proofs.lemmas.Int.{ints, to_z-of_z}
 use Rattle.std.proofs.lemmas.List.Elements.{All-head, All-tail}
 use Rattle.dispatcher.specs.Places.{IsNearLeader}

@@ -1,5 +1,5 @@
-use Rattle.std.proofs.Common.{◌≡◌, ◌∙◌, ap, arith, pos, w64, FitsSigned, to_z, of_z, get_or}
-use Rattle.std.specs.Prelude.{ℤ, ◌-ℤ◌}
+use Rattle.std.proofs.Common.{◌≡◌, arith, pos, w64, FitsSigned, to_z, of_z, get_or}
+use Rattle.std.specs.Prelude.{◌-ℤ◌}
 use Rattle.std.proofs.lemmas.Int.{ints, to_z-of_z}
 use Rattle.hs_base.specs.declared.net.Member.{Member}
 use Rattle.dispatcher.proofs.ToldLemmas.{told_here}

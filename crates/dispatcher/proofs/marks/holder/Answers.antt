@@ -1,11 +1,9 @@
-use Rattle.std.proofs.Common.{◌≡◌, ◌∙◌, ap, sym, refl, arith, w64, FitsSigned, to_z, of_z, Some, None}
+use Rattle.std.proofs.Common.{◌≡◌, ◌∙◌, sym, refl, arith, w64, FitsSigned, of_z, Some, None}
 use Rattle.std.specs.Prelude.{ℤ, ◌+ℤ◌, true}
 use Rattle.std.proofs.lemmas.Int.{ints, to_z-of_z}
-use Rattle.hs_base.specs.Reduced.{int_eq}
 use Rattle.net_laws.proofs.BetweenLemmas.{eq_int_eq}
 use Rattle.dispatcher.specs.Marks.{leader_time}
 use Rattle.dispatcher.proofs.FiringLemmas.{same_bits}
-use Rattle.dispatcher.proofs.MarkedLemmas.{held_marked, sound_set, complete, sound_none, turn_new, turn_none}
 use Rattle.dispatcher.proofs.marks.holder.Goals as goal
 
 pub overflow_add-at : goal.overflow_add-at

@@ -1,4 +1,4 @@
-use Rattle.std.proofs.Common.{◌≡◌, ◌∙◌, get_or, pos, to_z, of_z, w64, All, length}
+use Rattle.std.proofs.Common.{◌≡◌, get_or, pos, to_z, of_z, w64, length}
 use Rattle.std.specs.Prelude.{Contains}
 use Rattle.std.proofs.lemmas.Int.{to_z-of_z}
 use Rattle.std.proofs.lemmas.List.Elements.{Contains-get_or, All-contains}

@@ -1,15 +1,14 @@
-use Rattle.std.proofs.Common.{◌≡◌, ◌∙◌, ◌+◌, ◌<◌, ap, sym, refl, subst, arith, length, get_or, set, All, ℕ, List, inl, inr}
+use Rattle.std.proofs.Common.{◌≡◌, ◌∙◌, ◌<◌, ap, refl, subst, arith, length, get_or, All, ℕ, List, inl, inr}
 use Rattle.std.specs.Prelude.{Contains, pos}
 use Rattle.std.specs.List.{fold}
 use Rattle.std.proofs.lemmas.List.{length-map, length-set, get_or-map, get_or_default}
 use Rattle.std.proofs.lemmas.List.Elements.{All-head, All-tail, All-cons, All-contains}
 use Rattle.std.proofs.lemmas.Bool.{cases_eq}
-use Rattle.hs_base.specs.declared.net.Member.{Member}
 use Rattle.hs_base.specs.declared.net.Group.{Group}
 use Rattle.hs_base.specs.Dispatch.{stands}
 use Rattle.net_laws.proofs.NetworkLemmas.{number_at_most}
 use Rattle.dispatcher.specs.declared.places.Place.{Place}
-use Rattle.dispatcher.specs.Places.{IsNearLeader, IsSmall, placed, StandsAt, place_at}
+use Rattle.dispatcher.specs.Places.{IsNearLeader, IsSmall, placed}
 use Rattle.dispatcher.proofs.PlaceLemmas.{near_group, group_placed, all_placed, all_small}
 use Rattle.dispatcher.proofs.places.place_all.Goals as goal
 

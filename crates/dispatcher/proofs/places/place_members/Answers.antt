@@ -1,9 +1,8 @@
-use Rattle.std.proofs.Common.{◌≡◌, ◌∙◌, ap, sym, arith, pos, get_or, w64, FitsSigned, to_z, of_z}
+use Rattle.std.proofs.Common.{sym, arith, pos, get_or, w64, FitsSigned}
 use Rattle.std.proofs.lemmas.Int.{ints, to_z-of_z}
 use Rattle.std.proofs.lemmas.List.Sums.{fold_more}
 use Rattle.std.proofs.lemmas.List.Elements.{All-more}
 use Rattle.hs_base.specs.declared.net.Member.{Member}
-use Rattle.dispatcher.specs.declared.places.Place.{Place}
 use Rattle.dispatcher.specs.Places.{IsSmall, placed}
 use Rattle.dispatcher.proofs.places.place_members.Goals as goal
 

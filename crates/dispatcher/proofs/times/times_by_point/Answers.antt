@@ -1,4 +1,4 @@
-use Rattle.std.proofs.Common.{◌≡◌, ◌∙◌, ap, sym, arith, length, get_or, pos, w64, FitsSigned, to_z, of_z, rules, Some, None, replicate, take}
+use Rattle.std.proofs.Common.{◌≡◌, ◌∙◌, ap, arith, length, get_or, pos, w64, FitsSigned, to_z, of_z, rules, Some, None, replicate, take}
 use Rattle.std.proofs.lemmas.Int.{to_z-of_z}
 use Rattle.std.proofs.lemmas.List.FromFn.{length-map-range_with_len}
 use Rattle.hs_base.specs.declared.plan.Time.{Time}

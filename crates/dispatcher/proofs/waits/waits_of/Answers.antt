@@ -1,4 +1,4 @@
-use Rattle.std.proofs.Common.{◌≡◌, ◌∙◌, sym}
+use Rattle.std.proofs.Common.{◌∙◌, sym}
 use Rattle.dispatcher.proofs.waits.waits_of.Goals as goal
 
 pub wait-requires-clause-group : goal.wait-requires-clause-group

@@ -1,4 +1,4 @@
-use Rattle.std.proofs.Common.{◌≡◌, ℕ, pos, length, get_or, sym, subst, arith}
+use Rattle.std.proofs.Common.{ℕ, pos, length, get_or, sym, subst, arith}
 use Rattle.stn_distance.specs.Rows.{items_of}
 use Rattle.edge_filter.specs.declared.candidates.Candidate.{Candidate}
 use Rattle.edge_filter.specs.Weights.{IsRow}

@@ -1,4 +1,4 @@
-use Rattle.std.proofs.Common.{◌≡◌, ℕ, sym, subst, ◌∙◌, inl, inr}
+use Rattle.std.proofs.Common.{◌≡◌, sym, subst, ◌∙◌, inl, inr}
 use Rattle.dispatcher.specs.State.{State, MayGoOn, MustFire, IsLate, IsInTime}
 use Rattle.exec_core.proofs.decide.decide_tick.Goals as goal
 

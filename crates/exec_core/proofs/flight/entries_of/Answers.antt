@@ -1,4 +1,4 @@
-use Rattle.std.proofs.Common.{◌≡◌, ℕ, ◌<◌, ◌-◌, length, ap, arith, sym, ◌∙◌, get_or, Some}
+use Rattle.std.proofs.Common.{◌≡◌, ℕ, ◌-◌, length, ap, arith, ◌∙◌, get_or, Some}
 use Rattle.std.proofs.lemmas.Option.{slice_get_within, get_or_from_slice_get}
 use Rattle.std.proofs.lemmas.Int.{ints}
 use Rattle.std.specs.Prelude.{slice_get}

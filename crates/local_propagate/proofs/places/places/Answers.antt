@@ -1,5 +1,5 @@
-use Rattle.std.proofs.Common.{◌≡◌, ◌<◌, ℕ, ap, sym, ◌∙◌, arith, All, get_or, length, set}
-use Rattle.std.proofs.lemmas.List.{get_or-map, length-map, length-set}
+use Rattle.std.proofs.Common.{◌≡◌, ap, sym, ◌∙◌, arith, get_or}
+use Rattle.std.proofs.lemmas.List.{get_or-map, length-map}
 use Rattle.hs_base.specs.declared.net.Group.{Group}
 use Rattle.local_propagate.specs.Joined.{leaders_of}
 use Rattle.local_propagate.proofs.JoinedLemmas.{fill_more, filled}

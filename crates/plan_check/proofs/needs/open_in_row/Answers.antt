@@ -1,10 +1,10 @@
-use Rattle.std.proofs.Common.{◌≡◌, ℕ, ◌+◌, ◌<◌, ◌≤◌, Some, None, length, get_or, inl, inr, sym, ap, subst, ◌∙◌, arith}
+use Rattle.std.proofs.Common.{◌≡◌, ℕ, Some, None, get_or, inl, inr, subst, arith}
 use Rattle.std.proofs.lemmas.Bool.{cases_lt}
 use Rattle.std.proofs.lemmas.Option.{slice_get_within}
 use Rattle.hs_base.specs.declared.mission.Kind.{Kind}
 use Rattle.hs_base.specs.Needs.{needs_of}
 use Rattle.plan_check.specs.Open.{IsFirstOpen, IsOpenAt}
-use Rattle.plan_check.proofs.NeedLemmas.{token, is_last, open_at, at_open}
+use Rattle.plan_check.proofs.NeedLemmas.{is_last, open_at, at_open}
 use Rattle.plan_check.proofs.needs.open_in_row.Goals as goal
 
 abbrev pub no_kind : Kind

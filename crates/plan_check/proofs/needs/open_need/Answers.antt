@@ -1,4 +1,4 @@
-use Rattle.std.proofs.Common.{◌≡◌, ℕ, ◌+◌, ◌<◌, ◌≤◌, Bool, true, false, ◌&&◌, ◌||◌, List, length, take, get_or, inl, inr, sym, ap, subst, ◌∙◌, arith}
+use Rattle.std.proofs.Common.{◌≡◌, ℕ, ◌+◌, ◌<◌, ◌≤◌, true, false, ◌&&◌, ◌||◌, List, length, take, get_or, inl, inr, sym, ap, subst, ◌∙◌, arith}
 use Rattle.std.proofs.lemmas.Bool.{cases_lt}
 use Rattle.std.proofs.lemmas.List.{take_all}
 use Rattle.std.specs.Prelude.{filter}
@@ -6,7 +6,7 @@ use Rattle.hs_base.specs.declared.mission.Need.{Need}
 use Rattle.hs_base.specs.Needs.{same_kind, needs_of, is_deferrable}
 use Rattle.plan_check.specs.Claimed.{is_claimed}
 use Rattle.plan_check.specs.Open.{IsOpen}
-use Rattle.plan_check.proofs.NeedLemmas.{open_here, not_open_here, number_more, number_still, few_numbers, none_past}
+use Rattle.plan_check.proofs.NeedLemmas.{open_here, not_open_here, number_more, few_numbers, none_past}
 use Rattle.plan_check.proofs.needs.open_need.Goals as goal
 
 pub returns-then-not-is_settled : goal.returns-then-not-is_settled

@@ -1,7 +1,6 @@
-use Rattle.std.proofs.Common.{◌≡◌, ◌++◌, ◌+◌, ◌<◌, ◌≤◌, length, take, get_or, List, [], ◌∷◌, sym, ap, subst, ◌∙◌, arith}
+use Rattle.std.proofs.Common.{◌≡◌, ◌++◌, ◌+◌, ◌<◌, length, take, get_or, [], ◌∷◌, sym, ap, subst, ◌∙◌, arith}
 use Rattle.std.proofs.lemmas.Option.{slice_get_within}
 use Rattle.std.proofs.lemmas.Result.{err_from_is_err_and}
-use Rattle.std.specs.List.{AllByRecursion}
 use Rattle.hs_base.specs.declared.mission.Kind.{Kind}
 use Rattle.hs_base.specs.Walks.{EachAfter}
 use Rattle.hs_base.specs.Points.{tokens_of}

@@ -1,14 +1,14 @@
-use Rattle.std.proofs.Common.{◌≡◌, ◌+◌, ◌++◌, [], ◌∷◌, List, true, false, length, take, get_or, sym, ap, subst, ◌∙◌, arith, append_assoc}
+use Rattle.std.proofs.Common.{◌≡◌, ◌+◌, ◌++◌, [], ◌∷◌, List, true, false, take, get_or, sym, ap, subst, ◌∙◌, arith, append_assoc}
 use Rattle.std.proofs.lemmas.List.{take_more}
 use Rattle.std.proofs.lemmas.Option.{slice_get-get_or}
 use Rattle.std.specs.List.{list_any}
 use Rattle.hs_base.specs.declared.plan.Support.{Support}
-use Rattle.hs_base.specs.Checked.{joined, supports_of, IsServing, KeepsSupportAt}
+use Rattle.hs_base.specs.Checked.{supports_of, KeepsSupportAt}
 use Rattle.hs_base.specs.Faults.{IsFirstBreakAt}
 use Rattle.plan_check.specs.Claimed.{is_claimed, is_for, AreClaims}
 use Rattle.plan_check.specs.Serving.{IsServingIn}
 use Rattle.plan_check.proofs.LoopLemmas.{first_break_at, each_more}
-use Rattle.plan_check.proofs.SupportLemmas.{right_of, kept_next, not_twice, number_fits, counted_next, serves, not_false, not_true}
+use Rattle.plan_check.proofs.SupportLemmas.{right_of, kept_next, not_twice, number_fits, counted_next, not_false, not_true}
 use Rattle.plan_check.proofs.supports.check_supports.Goals as goal
 
 abbrev pub no_support : Support

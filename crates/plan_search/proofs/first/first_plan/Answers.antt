@@ -8,7 +8,6 @@ use Rattle.search_tree.specs.Outset.{MayBegin}
 use Rattle.search_tree.specs.Search.{FindsPlan}
 use Rattle.search_tree.specs.Tree.{plan}
 use Rattle.plan_search.specs.First.{outset}
-use Rattle.plan_search.specs.Told.{told}
 use Rattle.plan_search.proofs.OutsetLemmas.{found_planned}
 use Rattle.timeline_db.proofs.OpeningLemmas.{begins_anywhere}
 use Rattle.plan_search.proofs.first.first_plan.Goals as goal

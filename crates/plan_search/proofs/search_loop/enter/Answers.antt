@@ -1,4 +1,4 @@
-use Rattle.std.proofs.Common.{List, [], ap, ℕ, refl, subst, sym, ◌+◌, ◌++◌, ◌∙◌, ◌∷◌}
+use Rattle.std.proofs.Common.{List, [], ap, refl, subst, sym, ◌+◌, ◌++◌, ◌∙◌, ◌∷◌}
 use Rattle.plan_search.proofs.SearchLemmas.{finds_plan, reached_checked, searched_inner, searched_leaf}
 use Rattle.plan_search.specs.Searched.{IsSearched, path_to}
 use Rattle.plan_search.specs.Visits.{IsVisited}

@@ -1,4 +1,4 @@
-use Rattle.std.proofs.Common.{List, Option, [], ap, arith, length, subst, sym, ℕ, ◌++◌, ◌<◌, ◌^◌, ◌∙◌, ◌∷◌}
+use Rattle.std.proofs.Common.{List, Option, [], ap, arith, subst, sym, ℕ, ◌++◌, ◌<◌, ◌^◌, ◌∙◌, ◌∷◌}
 use Rattle.std.specs.List.{AllByRecursion}
 use Rattle.std.specs.Prelude.{IfSome}
 use Rattle.hs_base.specs.declared.mission.Mission.{Mission}

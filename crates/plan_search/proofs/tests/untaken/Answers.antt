@@ -1,4 +1,4 @@
-use Rattle.std.proofs.Common.{◌≡◌, sym, subst}
+use Rattle.std.proofs.Common.{sym, subst}
 use Rattle.hs_base.specs.declared.mission.Mission.{Mission}
 use Rattle.plan_check.specs.Seen.{seen}
 use Rattle.search_tree.specs.Begun.{Begun, begun_of}

@@ -1,4 +1,4 @@
-use Rattle.std.proofs.Common.{◌≡◌, drop, ap, ◌∙◌}
+use Rattle.std.proofs.Common.{drop, ap, ◌∙◌}
 use Rattle.ddl_read.specs.Cutting.{CutText}
 use Rattle.ddl_read.proofs.ReadLemmas.{are_spelled, spelled_drop}
 use Rattle.ddl_read.proofs.pieces.Pieces.reader.Goals as goal

@@ -1,7 +1,7 @@
-use Rattle.std.proofs.Common.{◌≡◌, ap, sym, subst, arith, pos, w64, FitsSigned, to_z, of_z}
+use Rattle.std.proofs.Common.{◌≡◌, sym, subst, arith, pos, w64, FitsSigned, to_z, of_z}
 use Rattle.std.specs.Prelude.{ℤ, ◌+ℤ◌}
 use Rattle.std.proofs.lemmas.Int.{ints, to_z-of_z}
-use Rattle.dispatcher.specs.State.{State, IsOpen, MayGoOn}
+use Rattle.dispatcher.specs.State.{IsOpen, MayGoOn}
 use Rattle.dispatcher.specs.Kept.{state_of}
 use Rattle.dispatcher.proofs.KeptLemmas.{ticked_lawful, tick_within}
 use Rattle.dispatcher.proofs.course.Course.advance.Goals as goal

@@ -1,12 +1,10 @@
-use Rattle.std.proofs.Common.{◌≡◌, ◌∙◌, ap, sym, refl, subst, arith, pos, w64, FitsSigned, to_z, of_z, get_or, length, Some, None}
-use Rattle.std.specs.Prelude.{ℤ, ◌+ℤ◌, ◌-ℤ◌, ◌<ℤ◌, ◌≤ℤ◌}
+use Rattle.std.proofs.Common.{◌≡◌, ◌∙◌, ap, sym, subst, arith, pos, w64, FitsSigned, to_z, of_z, get_or}
+use Rattle.std.specs.Prelude.{ℤ, ◌+ℤ◌, ◌-ℤ◌, ◌<ℤ◌}
 use Rattle.std.proofs.lemmas.Int.{ints, to_z-of_z}
 use Rattle.hs_base.specs.declared.net.Group.{Group}
-use Rattle.hs_base.specs.Dispatch.{group_time}
 use Rattle.net_laws.proofs.BetweenLemmas.{int_le-true, int_le-false}
-use Rattle.dispatcher.specs.State.{State, IsLawful, Bars, time_in}
+use Rattle.dispatcher.specs.State.{State, IsLawful, Bars}
 use Rattle.dispatcher.specs.Edges.{IsSetAt}
-use Rattle.dispatcher.specs.Kept.{state_of}
 use Rattle.dispatcher.proofs.InsideLemmas.{tick_fits}
 use Rattle.dispatcher.proofs.FiringLemmas.{set_within, known_within, next_within, unset_bars, late_bars}
 use Rattle.dispatcher.proofs.course.Course.bar_of.Goals as goal

@@ -1,6 +1,5 @@
-use Rattle.std.proofs.Common.{◌≡◌, ◌∙◌, ap, sym, refl, subst, arith, pos, w64, FitsSigned, to_z, of_z, length, replicate, rules, None}
+use Rattle.std.proofs.Common.{◌∙◌, sym, refl, subst, arith, pos, w64, FitsSigned, length}
 use Rattle.std.proofs.lemmas.Int.{ints, to_z-of_z}
-use Rattle.std.proofs.lemmas.List.{length-replicate}
 use Rattle.dispatcher.specs.Index.{AreSetBy, AreKnown, AreWaits, numbers_of}
 use Rattle.dispatcher.proofs.KeptLemmas.{joined}
 use Rattle.dispatcher.proofs.BeginLemmas.{by_size, reduced_by, reached_by, places_by, group_known, offset_known, time_known, begun_lawful}

@@ -1,10 +1,7 @@
-use Rattle.std.proofs.Common.{◌≡◌, ◌∙◌, ap, sym, refl, subst, arith, pos, w64, FitsSigned, to_z, of_z}
+use Rattle.std.proofs.Common.{◌≡◌, ◌∙◌, ap, sym, subst, arith, w64, FitsSigned, to_z, of_z}
 use Rattle.std.specs.Prelude.{ℤ, ◌+ℤ◌, ◌-ℤ◌}
 use Rattle.std.proofs.lemmas.Int.{ints, to_z-of_z}
-use Rattle.hs_base.specs.declared.net.Bound.{Bound}
-use Rattle.hs_base.specs.Schedule.{bound}
 use Rattle.dispatcher.specs.State.{State, IsLawful, Bars}
-use Rattle.dispatcher.specs.Kept.{state_of}
 use Rattle.dispatcher.proofs.InsideLemmas.{tick_fits}
 use Rattle.dispatcher.proofs.FiringLemmas.{set_within, place_within, known_within, same_bits, set_may, set_bars}
 use Rattle.dispatcher.proofs.course.Course.fire_of_set.Goals as goal

@@ -1,5 +1,5 @@
-use Rattle.std.proofs.Common.{◌≡◌, ◌∙◌, ◌<◌, ℕ, ap, sym, refl, subst, arith, pos, w64, FitsSigned, to_z, of_z, get_or, length, inl, inr}
-use Rattle.std.specs.Prelude.{ℤ, ◌-ℤ◌, Contains}
+use Rattle.std.proofs.Common.{◌≡◌, ◌∙◌, ℕ, ap, sym, subst, arith, pos, w64, FitsSigned, to_z, of_z, get_or, inl, inr}
+use Rattle.std.specs.Prelude.{◌-ℤ◌, Contains}
 use Rattle.std.proofs.lemmas.Bool.{cases_eq}
 use Rattle.std.proofs.lemmas.Int.{ints, to_z-of_z}
 use Rattle.std.proofs.lemmas.List.{get_or_default}

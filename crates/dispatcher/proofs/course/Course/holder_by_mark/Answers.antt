@@ -1,6 +1,5 @@
-use Rattle.std.proofs.Common.{◌≡◌, ◌∙◌, ◌<◌, ℕ, ap, sym, subst, arith, length, pos, get_or, w64, FitsSigned, to_z, of_z, Some, None}
-use Rattle.std.specs.Prelude.{ℤ}
-use Rattle.std.proofs.lemmas.Int.{ints, to_z-of_z}
+use Rattle.std.proofs.Common.{◌≡◌, ◌∙◌, ◌<◌, ℕ, ap, sym, subst, arith, length, pos, get_or, w64, FitsSigned, of_z, None}
+use Rattle.std.proofs.lemmas.Int.{ints}
 use Rattle.hs_base.specs.declared.net.Group.{Group}
 use Rattle.hs_base.specs.Dispatch.{MarkedFrom, leader_times}
 use Rattle.dispatcher.specs.declared.places.Place.{Place}

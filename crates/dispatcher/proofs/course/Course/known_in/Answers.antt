@@ -1,4 +1,4 @@
-use Rattle.std.proofs.Common.{◌≡◌, ◌∙◌, ◌<◌, sym, subst, arith, length, w64, FitsSigned, to_z, of_z, rules}
+use Rattle.std.proofs.Common.{◌<◌, sym, subst, arith, length, w64, FitsSigned, rules}
 use Rattle.std.specs.Prelude.{ℤ}
 use Rattle.std.proofs.lemmas.Int.{to_z-of_z}
 use Rattle.hs_base.specs.declared.net.Member.{Member}

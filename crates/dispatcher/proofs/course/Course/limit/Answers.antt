@@ -1,4 +1,4 @@
-use Rattle.std.proofs.Common.{◌≡◌, sym, subst, arith, pos, w64, FitsSigned, to_z, of_z, rules, ◌↔◌}
+use Rattle.std.proofs.Common.{subst, arith, pos, w64, FitsSigned, to_z, of_z, rules, ◌↔◌}
 use Rattle.std.specs.Prelude.{ℤ, ◌<ℤ◌}
 use Rattle.std.proofs.lemmas.Int.{ints, clamps, to_z-of_z}
 use Rattle.dispatcher.specs.State.{State, MayGoOn}

@@ -1,4 +1,4 @@
-use Rattle.std.proofs.Common.{◌≡◌, ◌∙◌, ap, sym, subst, w64, FitsSigned, to_z, of_z, get_or, rules, Some, None}
+use Rattle.std.proofs.Common.{◌≡◌, ◌∙◌, sym, subst, w64, FitsSigned, get_or, rules, Some, None}
 use Rattle.std.proofs.lemmas.Int.{to_z-of_z}
 use Rattle.hs_base.specs.declared.net.Group.{Group}
 use Rattle.hs_base.specs.Dispatch.{group_time}

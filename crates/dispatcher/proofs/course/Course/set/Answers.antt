@@ -1,5 +1,5 @@
-use Rattle.std.proofs.Common.{◌≡◌, ◌∙◌, ◌<◌, ℕ, List, ap, sym, refl, subst, arith, pos, w64, FitsSigned, to_z, of_z, length, get_or, set, map, Some, None, Option}
-use Rattle.std.specs.Prelude.{ℤ, ◌≤ℤ◌, All, Contains}
+use Rattle.std.proofs.Common.{◌≡◌, ◌∙◌, ◌<◌, ℕ, ap, sym, refl, subst, arith, pos, w64, FitsSigned, to_z, of_z, length, get_or, set, Some, None}
+use Rattle.std.specs.Prelude.{ℤ, ◌≤ℤ◌, All}
 use Rattle.std.specs.List.{fold}
 use Rattle.std.proofs.lemmas.Int.{ints, to_z-of_z}
 use Rattle.std.proofs.lemmas.List.{get_or_read, map-set, length-map, length-set}
@@ -10,7 +10,7 @@ use Rattle.local_propagate.specs.Windows.{time_of}
 use Rattle.local_propagate.specs.declared.windows.TheConstants.{NEVER}
 use Rattle.dispatcher.specs.declared.course.Course.TheInside.{Inside}
 use Rattle.dispatcher.specs.declared.places.Place.{Place}
-use Rattle.dispatcher.specs.State.{State, IsOpen, MayFire}
+use Rattle.dispatcher.specs.State.{IsOpen, MayFire}
 use Rattle.dispatcher.specs.Places.{ArePlaces, place_at, no_place, IsNearLeader}
 use Rattle.dispatcher.specs.Index.{numbers_of, waited}
 use Rattle.dispatcher.specs.Kept.{state_of, IsKept}

@@ -1,7 +1,7 @@
-use Rattle.std.proofs.Common.{◌≡◌, ◌≢◌, ◌∙◌, ◌<◌, ℕ, ap, sym, refl, subst, arith, length, get_or, nat_eq, true, false, w64, FitsSigned, to_z, of_z, None, rules, tests}
+use Rattle.std.proofs.Common.{◌≡◌, ◌≢◌, ◌∙◌, ◌<◌, ap, sym, subst, arith, nat_eq, true, false, w64, FitsSigned, of_z, None, rules, tests}
 use Rattle.std.specs.Prelude.{IsTrue}
-use Rattle.std.proofs.lemmas.Int.{ints, to_z-of_z}
-use Rattle.std.proofs.lemmas.Bool.{eq-eqb, eqb-true, not-true, cases_Bool, both_ways}
+use Rattle.std.proofs.lemmas.Int.{ints}
+use Rattle.std.proofs.lemmas.Bool.{eq-eqb, eqb-true}
 use Rattle.std.proofs.lemmas.List.{get_or_read}
 use Rattle.dispatcher.specs.declared.places.Place.{Place}
 use Rattle.dispatcher.specs.State.{State, IsTiedTo, is_observed, time_in, points}

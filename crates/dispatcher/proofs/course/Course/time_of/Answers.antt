@@ -1,10 +1,8 @@
-use Rattle.std.proofs.Common.{◌≡◌, ◌∙◌, ◌<◌, ap, sym, subst, arith, length, get_or, Option}
-use Rattle.std.specs.Prelude.{ℤ}
+use Rattle.std.proofs.Common.{◌≡◌, ◌∙◌, ◌<◌, ap, sym, subst, arith, length, get_or}
 use Rattle.hs_base.specs.declared.net.Group.{Group}
 use Rattle.hs_base.specs.Dispatch.{group_time}
 use Rattle.local_propagate.specs.Windows.{time_of}
 use Rattle.dispatcher.specs.State.{State, time_in}
-use Rattle.dispatcher.specs.Kept.{state_of}
 use Rattle.dispatcher.proofs.InsideLemmas.{leader_below, number_read, time_read}
 use Rattle.dispatcher.proofs.course.Course.time_of.Goals as goal
 

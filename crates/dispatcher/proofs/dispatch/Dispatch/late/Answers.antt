@@ -1,4 +1,4 @@
-use Rattle.std.proofs.Common.{◌≡◌, ◌↔◌, sym, subst, inr, None, Option, refl}
+use Rattle.std.proofs.Common.{◌↔◌, sym, subst, inr, Option, refl}
 use Rattle.std.specs.Prelude.{IsNone}
 use Rattle.hs_base.specs.declared.net.Bound.{Bound}
 use Rattle.dispatcher.specs.State.{State, IsInTime}

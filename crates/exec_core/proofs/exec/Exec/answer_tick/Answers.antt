@@ -1,4 +1,4 @@
-use Rattle.std.proofs.Common.{◌≡◌, sym, subst}
+use Rattle.std.proofs.Common.{sym, subst}
 use Rattle.hs_base.specs.Machine.{Replies, tick}
 use Rattle.exec_core.specs.Replies.{reply_of}
 use Rattle.exec_core.specs.declared.reply.Reply.{Reply}

@@ -1,4 +1,4 @@
-use Rattle.std.proofs.Common.{◌≡◌, refl, arith, sym, subst, ap}
+use Rattle.std.proofs.Common.{refl, arith, sym, subst, ap}
 use Rattle.std.specs.Prelude.{is_ok}
 use Rattle.exec_core.specs.Kept.{IsKept}
 use Rattle.exec_core.proofs.PushLemmas.{pushed}

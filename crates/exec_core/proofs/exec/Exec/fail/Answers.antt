@@ -1,4 +1,4 @@
-use Rattle.std.proofs.Common.{◌≡◌, refl, arith}
+use Rattle.std.proofs.Common.{refl, arith}
 use Rattle.exec_core.proofs.KeptLemmas.{fail_kept}
 use Rattle.exec_core.proofs.LawfulLemmas.{fail_may, fail_room, record_adds}
 use Rattle.exec_core.proofs.PushLemmas.{pushed}

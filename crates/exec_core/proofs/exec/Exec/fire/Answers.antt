@@ -1,4 +1,4 @@
-use Rattle.std.proofs.Common.{◌≡◌, refl, ap}
+use Rattle.std.proofs.Common.{refl, ap}
 use Rattle.hs_base.specs.declared.history.Deed.TheVariants.{Fire}
 use Rattle.hs_base.specs.Machine.{fire}
 use Rattle.exec_core.specs.Replies.{reply_of}

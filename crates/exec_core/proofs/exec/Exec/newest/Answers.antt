@@ -1,4 +1,4 @@
-use Rattle.std.proofs.Common.{◌≡◌, ◌<◌, length, ap, ◌∙◌, arith}
+use Rattle.std.proofs.Common.{length, ap, ◌∙◌, arith}
 use Rattle.hs_base.specs.declared.plan.Plan.{Plan}
 use Rattle.plan_check.proofs.WithinLemmas.{few_extensions}
 use Rattle.exec_core.proofs.exec.Exec.newest.Goals as goal

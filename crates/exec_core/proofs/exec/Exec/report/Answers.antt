@@ -1,4 +1,4 @@
-use Rattle.std.proofs.Common.{◌≡◌, refl, ap, sym}
+use Rattle.std.proofs.Common.{refl, ap, sym}
 use Rattle.hs_base.specs.declared.history.Deed.TheVariants.{Report, Early}
 use Rattle.hs_base.specs.Machine.{report, failed}
 use Rattle.exec_core.specs.Replies.{reply_of}

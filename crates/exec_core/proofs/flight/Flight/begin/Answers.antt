@@ -1,4 +1,4 @@
-use Rattle.std.proofs.Common.{◌≡◌, ◌<◌, length, ap, arith}
+use Rattle.std.proofs.Common.{length, ap, arith}
 use Rattle.hs_base.specs.declared.plan.Plan.{Plan}
 use Rattle.hs_base.specs.Points.{count}
 use Rattle.plan_check.proofs.WithinLemmas.{few_points, few_extensions}

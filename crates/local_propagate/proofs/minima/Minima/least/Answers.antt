@@ -1,6 +1,5 @@
-use Rattle.std.proofs.Common.{◌≡◌, ◌<◌, length, pos, get_or, arith, rules, w64, to_z, of_z, FitsSigned, sym, ap, ◌∙◌, subst, drop}
-use Rattle.std.specs.Prelude.{ℤ, ◌≤ℤ◌, Contains, All}
-use Rattle.std.proofs.lemmas.Int.{ints, to_z-of_z}
+use Rattle.std.proofs.Common.{◌≡◌, ◌<◌, length, pos, arith, rules, w64, FitsSigned, ap, drop}
+use Rattle.std.proofs.lemmas.Int.{to_z-of_z}
 use Rattle.std.proofs.lemmas.List.{get_or_read, length-drop}
 use Rattle.local_propagate.proofs.TournamentLemmas.{winner_least, winner_among}
 use Rattle.local_propagate.proofs.minima.Minima.least.Goals as goal

@@ -1,4 +1,4 @@
-use Rattle.std.proofs.Common.{◌≡◌, ◌∙◌, ap, map, length, arith}
+use Rattle.std.proofs.Common.{◌≡◌, ap, map, length, arith}
 use Rattle.std.proofs.lemmas.List.{length-map}
 use Rattle.local_propagate.proofs.NeighbourLemmas.{items_pushed}
 use Rattle.local_propagate.proofs.neighbours.Neighbours.add.Goals as goal

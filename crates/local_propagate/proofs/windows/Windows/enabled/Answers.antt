@@ -1,5 +1,4 @@
-use Rattle.std.proofs.Common.{◌≡◌, ◌∙◌, sym, arith, get_or, rules, tests, nat_eq}
-use Rattle.std.specs.Prelude.{IsTrue}
+use Rattle.std.proofs.Common.{◌≡◌, ◌∙◌, sym, arith, rules, tests}
 use Rattle.std.proofs.lemmas.List.{get_or_read}
 use Rattle.local_propagate.specs.Joined.{leader_at}
 use Rattle.local_propagate.specs.Windows.{set_times}

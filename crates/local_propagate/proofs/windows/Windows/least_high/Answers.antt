@@ -1,5 +1,5 @@
-use Rattle.std.proofs.Common.{◌≡◌, arith, w64, FitsSigned, rules}
-use Rattle.std.proofs.lemmas.Int.{ints, to_z-of_z}
+use Rattle.std.proofs.Common.{w64, FitsSigned, rules}
+use Rattle.std.proofs.lemmas.Int.{to_z-of_z}
 use Rattle.local_propagate.proofs.FreshLemmas.{least_stored}
 use Rattle.local_propagate.proofs.windows.Windows.least_high.Goals as goal
 

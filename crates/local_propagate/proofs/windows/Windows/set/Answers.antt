@@ -1,11 +1,8 @@
-use Rattle.std.proofs.Common.{◌≡◌, ◌∙◌, ap, sym, refl, arith, length, get_or, set, Some, pos, w64, to_z, of_z}
+use Rattle.std.proofs.Common.{◌≡◌, ◌∙◌, ap, sym, refl, arith, length, set, Some, w64, to_z, of_z}
 use Rattle.std.specs.Prelude.{ℤ}
-use Rattle.std.specs.List.{fold}
 use Rattle.std.proofs.lemmas.Int.{to_z-of_z}
 use Rattle.std.proofs.lemmas.List.{length-set, with_items_is}
-use Rattle.local_propagate.specs.declared.neighbours.Neighbour.{Neighbour}
 use Rattle.local_propagate.specs.declared.windows.TheConstants.{NEVER}
-use Rattle.local_propagate.specs.Narrowed.{raised, lowered, released}
 use Rattle.local_propagate.proofs.NarrowLemmas.{length-raised, length-lowered, length-released}
 use Rattle.local_propagate.proofs.WindowsLemmas.{near_after, near_before, settled}
 use Rattle.local_propagate.proofs.windows.Windows.set.Goals as goal

@@ -1,4 +1,4 @@
-use Rattle.std.proofs.Common.{◌≡◌, true, cond, ap}
+use Rattle.std.proofs.Common.{ap}
 use Rattle.plan_check.specs.Claimed.{is_claimed, is_for, same_claim}
 use Rattle.plan_check.specs.declared.claims.Claim.{Claim}
 use Rattle.plan_check.proofs.SupportLemmas.{claims_push}
