@@ -29,7 +29,7 @@ fn cause_of(rows: &[Row], causes: &[Cause], point: u32) -> Option<Bound>
         return None;
     }
     let mut bound = row[place];
-    // as it is: so the next step need not wait for the row to tell it
+    // the same point, taken from the cause: the walk need not wait for the row to tell it
     bound.to = PointId(cause.to);
     Some(bound)
 }
