@@ -1,10 +1,11 @@
 ghost use Rattle.std.specs.Prelude.{◌≡◌, ◌++◌, OnOk, codes, flat_map};
 ghost use Rattle.std.specs.Fmt.{decimal};
-ghost use Rattle.hs_base.specs.RefusalText.{not_one_text};
-ghost use Rattle.hs_base.specs.ClosingText.{no_plan_line, budget_line, checked_line, drill_line};
+ghost use Rattle.hs_texts.specs.RefusalText.{not_one_text};
+ghost use Rattle.hs_texts.specs.ClosingText.{no_plan_line, budget_line, checked_line, drill_line};
 
 use crate::lines::{push_last, push_part};
-use hs_base::{Memory, Text};
+use hs_base::Memory;
+use hs_texts::Text;
 
 /// Puts the line at the end with which a plan of `extensions` extensions is refused where one is
 /// asked for.

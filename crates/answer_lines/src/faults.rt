@@ -1,12 +1,13 @@
 ghost use Rattle.std.specs.Prelude.{◌≡◌, ◌^◌, ◌<◌, ◌++◌, length, codes, flat_map, IfOk, OnOk};
 ghost use Rattle.std.specs.Fmt.{decimal};
 ghost use Rattle.hs_base.specs.Points.{count};
-ghost use Rattle.hs_base.specs.Written.{variable_name, bound_in, bound_text};
-ghost use Rattle.hs_base.specs.RefusalText.{fault_lines, fault_text};
+ghost use Rattle.hs_texts.specs.Written.{variable_name, bound_in, bound_text};
+ghost use Rattle.hs_texts.specs.RefusalText.{fault_lines, fault_text};
 ghost use Rattle.answer_lines.specs.Naming.{NamesPoints};
 
 use crate::lines::{push_last, push_numbered, push_part};
-use hs_base::{Bound, Extension, Fault, Memory, Mission, SvId, Text};
+use hs_base::{Bound, Extension, Fault, Memory, Mission, SvId};
+use hs_texts::Text;
 use plan_text::{PointNames, push_bound, push_variable};
 use std::alloc::Global;
 

@@ -1,7 +1,8 @@
 ghost use Rattle.std.specs.Prelude.{◌≡◌, ◌++◌, codes, OnOk};
 ghost use Rattle.std.specs.Fmt.{decimal};
 
-use hs_base::{Memory, Text};
+use hs_base::Memory;
+use hs_texts::Text;
 use plan_text::push_number;
 
 /// Words and a number.

@@ -1,8 +1,9 @@
 ghost use Rattle.std.specs.Prelude.{◌≡◌, ◌++◌, codes, IfOk, OnOk};
-ghost use Rattle.hs_base.specs.RefusalText.{refusal_line as line_of};
+ghost use Rattle.hs_texts.specs.RefusalText.{refusal_line as line_of};
 
 use crate::lines::push_numbered;
-use hs_base::{Memory, Name, Refusal, Text};
+use hs_base::{Memory, Name};
+use hs_texts::{Refusal, Text};
 use std::alloc::Global;
 
 /// A line that ends with a name.

@@ -1,7 +1,8 @@
 use crate::{
     fault_line, push_budget, push_checked, push_drill, push_no_plan, push_not_one, refusal_line,
 };
-use hs_base::{Bound, Fault, List, Mission, Name, PointId, Refusal, Text};
+use hs_base::{Bound, Fault, List, Mission, Name, PointId};
+use hs_texts::{Refusal, Text};
 use std::alloc::Global;
 use std::test::Fail;
 

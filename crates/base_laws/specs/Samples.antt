@@ -10,9 +10,6 @@ use Rattle.hs_base.specs.declared.mission.Value.{Value}
 use Rattle.hs_base.specs.declared.mission.Mission.{Mission}
 use Rattle.hs_base.specs.declared.plan.TokenRef.{TokenRef}
 use Rattle.hs_base.specs.declared.plan.Extension.{Extension}
-use Rattle.hs_base.specs.declared.net.Net.{Net}
-use Rattle.hs_base.specs.declared.history.Deed.TheVariants.{Tick, Fire, Handover}
-use Rattle.hs_base.specs.declared.history.Entry.{Entry}
 use Rattle.hs_base.specs.Ranges.{range, whole}
 
 abbrev pub value_id : ℕ → ValId
@@ -91,10 +88,3 @@ camera_plan = camera_extension ∷ []
 -- a schedule of the camera plan
 abbrev pub camera_times : List ℤ
 camera_times = pos 0 ∷ pos 100 ∷ pos 20 ∷ pos 24 ∷ pos 101 ∷ pos 1 ∷ pos 12 ∷ pos 101 ∷ []
-
--- a history of the camera mission: the plan is handed over with some network, and the first turn begins at 1
-abbrev pub entry_of_tick : Entry
-entry_of_tick = record { by = 0; deed = Tick }
-
-abbrev pub camera_history : Net → List Entry
-camera_history n = record { by = 0; deed = Handover camera_extension n } ∷ entry_of_tick ∷ record { by = 0; deed = Fire (record { 0 = 5 }) } ∷ entry_of_tick ∷ []

@@ -1,12 +1,12 @@
 -- What each command makes of a good input.
 use Rattle.std.proofs.Common.{◌≡◌, ℕ, List, length, refl, ap, ◌∙◌, subst, inl, inr}
-use Rattle.hs_base.specs.declared.ast.Ast.{Ast}
+use Rattle.hs_texts.specs.declared.ast.Ast.{Ast}
 use Rattle.hs_base.specs.declared.mission.Mission.{Mission}
 use Rattle.hs_base.specs.declared.plan.Extension.{Extension}
-use Rattle.hs_base.specs.CanonicalText.{canonical}
+use Rattle.hs_texts.specs.CanonicalText.{canonical}
 use Rattle.hs_base.specs.Checked.{Checked}
-use Rattle.hs_base.specs.ClosingText.{checked_line}
-use Rattle.hs_base.specs.MissionSpelling.{IsMissionRefusal, IsRefusalOf}
+use Rattle.hs_texts.specs.ClosingText.{checked_line}
+use Rattle.hs_texts.specs.MissionSpelling.{IsMissionRefusal, IsRefusalOf}
 use Rattle.text_laws.proofs.RefusalLemmas.{spelled_one, spelled_or_refused}
 use Rattle.domain_check.proofs.RuleLemmas.{not_meant}
 use Rattle.commands.specs.Inputs.{IsGiven, IsRefused}

@@ -10,7 +10,7 @@ use Rattle.hs_base.specs.declared.fault.Fault.TheVariants.{Base, Limit as OverLi
 use Rattle.hs_base.specs.Points.{count}
 use Rattle.hs_base.specs.Checked.{joined, Checked}
 use Rattle.hs_base.specs.Faults.{IsFault}
-use Rattle.hs_base.specs.RefusalText.{fault_text}
+use Rattle.hs_texts.specs.RefusalText.{fault_text}
 use Rattle.base_laws.proofs.PointLemmas.{count-push}
 use Rattle.plan_check.proofs.WithinLemmas.{few_points}
 use Rattle.answer_lines.specs.Naming.{NamesPoints}

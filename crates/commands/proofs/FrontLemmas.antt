@@ -1,10 +1,10 @@
 -- What stands in front of a text is one mission, or is refused.
 use Rattle.std.proofs.Common.{◌≡◌, ℕ, List, subst, inl, inr}
-use Rattle.hs_base.specs.declared.ast.Ast.{Ast}
+use Rattle.hs_texts.specs.declared.ast.Ast.{Ast}
 use Rattle.hs_base.specs.declared.mission.Mission.{Mission}
-use Rattle.hs_base.specs.declared.refusal.Refusal.{Refusal}
-use Rattle.hs_base.specs.MissionMeaning.{Means}
-use Rattle.hs_base.specs.MissionSpelling.{IsMissionRefusal}
+use Rattle.hs_texts.specs.declared.refusal.Refusal.{Refusal}
+use Rattle.hs_texts.specs.MissionMeaning.{Means}
+use Rattle.hs_texts.specs.MissionSpelling.{IsMissionRefusal}
 use Rattle.domain_check.proofs.RuleLemmas.{not_meant}
 use Rattle.commands.specs.Inputs.{IsInFront, IsFrontRefusalOf}
 use Rattle.domain_check.proofs.MeansLemmas.{means_one}

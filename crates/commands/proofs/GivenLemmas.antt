@@ -3,8 +3,8 @@ use Rattle.std.proofs.Common.{◌≡◌, ℕ, zero, suc, ◌≤◌, List, [], �
 use Rattle.std.proofs.lemmas.List.{length-map}
 use Rattle.hs_base.specs.declared.mission.Mission.{Mission}
 use Rattle.hs_base.specs.declared.plan.Extension.{Extension}
-use Rattle.hs_base.specs.declared.refusal.Refusal.{Refusal}
-use Rattle.hs_base.specs.Pieces.{Piece, Placed, pieces_of}
+use Rattle.hs_texts.specs.declared.refusal.Refusal.{Refusal}
+use Rattle.hs_texts.specs.Pieces.{Piece, Placed, pieces_of}
 use Rattle.text_laws.proofs.PieceLemmas.{cut_one}
 use Rattle.ddl_read.specs.declared.piece.Piece.{Piece as CutPiece}
 use Rattle.ddl_read.specs.Spelled.{placed}

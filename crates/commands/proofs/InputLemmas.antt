@@ -1,9 +1,9 @@
 -- What is read of a text, and why it is refused.
 use Rattle.std.proofs.Common.{◌≢◌, ℕ, List, refl, inr}
-use Rattle.hs_base.specs.declared.ast.Ast.{Ast}
-use Rattle.hs_base.specs.declared.refusal.Refusal.{Refusal}
-use Rattle.hs_base.specs.declared.refusal.Refusal.TheVariants.{NotUtf8, Char, Expected, Number, Trailing, Twice, Unknown, Range, Limit, NoBegin, Horizons, SameVar, SameBy, Memory}
-use Rattle.hs_base.specs.MissionSpelling.{SpellsFront, IsMissionRefusal}
+use Rattle.hs_texts.specs.declared.ast.Ast.{Ast}
+use Rattle.hs_texts.specs.declared.refusal.Refusal.{Refusal}
+use Rattle.hs_texts.specs.declared.refusal.Refusal.TheVariants.{NotUtf8, Char, Expected, Number, Trailing, Twice, Unknown, Range, Limit, NoBegin, Horizons, SameVar, SameBy, Memory}
+use Rattle.hs_texts.specs.MissionSpelling.{SpellsFront, IsMissionRefusal}
 use Rattle.text_laws.specs.Refused.{OrMemory}
 use Rattle.commands.specs.Inputs.{IsFrontRefusalOf, IsRefused, IsTold}
 use Rattle.commands.specs.declared.status.Status.{Status}

@@ -3,7 +3,7 @@ use Rattle.std.proofs.Common.{◌≡◌, ℕ, List, [], refl, sym, subst, inl, i
 use Rattle.hs_base.specs.declared.mission.Mission.{Mission}
 use Rattle.hs_base.specs.declared.plan.Extension.{Extension}
 use Rattle.hs_base.specs.Checked.{Checked}
-use Rattle.hs_base.specs.LogText.{log_text}
+use Rattle.log_laws.specs.LogText.{log_text}
 use Rattle.search_tree.specs.Tree.{Found, plan, no_plan, budget}
 use Rattle.search_laws.proofs.OneLemmas.{one_plan}
 use Rattle.plan_search.specs.declared.first.Unplanned.{Unplanned}

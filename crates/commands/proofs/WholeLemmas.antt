@@ -1,14 +1,14 @@
 -- A text that is an accepted mission and nothing else.
 use Rattle.std.proofs.Common.{◌≡◌, ℕ, List, length, refl, sym, subst, inl, inr, arith}
 use Rattle.std.proofs.lemmas.List.{length-map}
-use Rattle.hs_base.specs.declared.ast.Ast.{Ast}
+use Rattle.hs_texts.specs.declared.ast.Ast.{Ast}
 use Rattle.hs_base.specs.declared.mission.Mission.{Mission}
 use Rattle.hs_base.specs.declared.plan.Extension.{Extension}
-use Rattle.hs_base.specs.declared.refusal.Refusal.{Refusal}
-use Rattle.hs_base.specs.Pieces.{Piece, Placed, pieces_of}
-use Rattle.hs_base.specs.MissionMeaning.{Means}
-use Rattle.hs_base.specs.MissionSpelling.{IsMissionRefusal, IsRefusalOf}
-use Rattle.hs_base.specs.MissionText.{MissionText}
+use Rattle.hs_texts.specs.declared.refusal.Refusal.{Refusal}
+use Rattle.hs_texts.specs.Pieces.{Piece, Placed, pieces_of}
+use Rattle.hs_texts.specs.MissionMeaning.{Means}
+use Rattle.hs_texts.specs.MissionSpelling.{IsMissionRefusal, IsRefusalOf}
+use Rattle.hs_texts.specs.MissionText.{MissionText}
 use Rattle.text_laws.proofs.AnswerLemmas.{all_taken}
 use Rattle.text_laws.proofs.RefusalLemmas.{spelled_one, spelled_or_refused}
 use Rattle.domain_check.proofs.RuleLemmas.{not_meant}

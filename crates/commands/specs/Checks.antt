@@ -5,9 +5,9 @@ use Rattle.hs_base.specs.declared.plan.Extension.{Extension}
 use Rattle.hs_base.specs.declared.fault.Fault.{Fault}
 use Rattle.hs_base.specs.declared.fault.Fault.TheVariants.{Memory as NoMemoryLeft}
 use Rattle.hs_base.specs.Checked.{Checked}
-use Rattle.hs_base.specs.ClosingText.{checked_line}
+use Rattle.hs_texts.specs.ClosingText.{checked_line}
 use Rattle.hs_base.specs.Faults.{IsFault}
-use Rattle.hs_base.specs.RefusalText.{fault_text}
+use Rattle.hs_texts.specs.RefusalText.{fault_text}
 use Rattle.commands.specs.Inputs.{IsGiven, IsGivenRefusal, IsRefused}
 use Rattle.commands.specs.declared.status.Status.{Status}
 use Rattle.commands.specs.declared.status.Status.TheVariants.{Done, Refused, PlanRefused}

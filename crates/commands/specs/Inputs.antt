@@ -1,14 +1,14 @@
 -- What the bytes of an input spell.
 use Rattle.std.specs.Prelude.{◌≡◌, ◌≢◌, ◌⊎◌, ℕ, List, length}
-use Rattle.hs_base.specs.declared.ast.Ast.{Ast}
+use Rattle.hs_texts.specs.declared.ast.Ast.{Ast}
 use Rattle.hs_base.specs.declared.mission.Mission.{Mission}
 use Rattle.hs_base.specs.declared.plan.Extension.{Extension}
-use Rattle.hs_base.specs.declared.refusal.Refusal.{Refusal}
-use Rattle.hs_base.specs.declared.refusal.Refusal.TheVariants.{Memory as NoMemoryLeft}
-use Rattle.hs_base.specs.Pieces.{Placed, IsTextOf}
-use Rattle.hs_base.specs.MissionMeaning.{Means}
-use Rattle.hs_base.specs.MissionSpelling.{Spells, SpellsFront, IsFrontRefusal, IsMissionRefusal}
-use Rattle.hs_base.specs.RefusalText.{refusal_line}
+use Rattle.hs_texts.specs.declared.refusal.Refusal.{Refusal}
+use Rattle.hs_texts.specs.declared.refusal.Refusal.TheVariants.{Memory as NoMemoryLeft}
+use Rattle.hs_texts.specs.Pieces.{Placed, IsTextOf}
+use Rattle.hs_texts.specs.MissionMeaning.{Means}
+use Rattle.hs_texts.specs.MissionSpelling.{Spells, SpellsFront, IsFrontRefusal, IsMissionRefusal}
+use Rattle.hs_texts.specs.RefusalText.{refusal_line}
 use Rattle.plan_text.specs.PlanSpelling.{PlanSpells, IsPlanRefusal}
 use Rattle.commands.specs.declared.status.Status.{Status}
 use Rattle.commands.specs.declared.status.Status.TheVariants.{Refused}

@@ -4,9 +4,9 @@ use Rattle.hs_base.specs.declared.mission.Mission.{Mission}
 use Rattle.hs_base.specs.declared.plan.Extension.{Extension}
 use Rattle.hs_base.specs.declared.net.Net.{Net}
 use Rattle.hs_base.specs.Bounds.{bounds_of}
-use Rattle.hs_base.specs.MissionSpelling.{IsRefusalOf}
-use Rattle.hs_base.specs.NetText.{net_text}
-use Rattle.hs_base.specs.PlanText.{plan_text}
+use Rattle.hs_texts.specs.MissionSpelling.{IsRefusalOf}
+use Rattle.hs_texts.specs.NetText.{net_text}
+use Rattle.hs_texts.specs.PlanText.{plan_text}
 use Rattle.hs_base.specs.Points.{count}
 use Rattle.hs_base.specs.Reduced.{IsReducedOf}
 use Rattle.commands.specs.Inputs.{IsWhole, IsRefused}

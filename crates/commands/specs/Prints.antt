@@ -1,10 +1,10 @@
 -- What `print` makes of an input.
 use Rattle.std.specs.Prelude.{◌≡◌, ℕ, List}
-use Rattle.hs_base.specs.declared.ast.Ast.{Ast}
+use Rattle.hs_texts.specs.declared.ast.Ast.{Ast}
 use Rattle.hs_base.specs.declared.mission.Mission.{Mission}
-use Rattle.hs_base.specs.CanonicalText.{canonical}
-use Rattle.hs_base.specs.MissionMeaning.{Means}
-use Rattle.hs_base.specs.MissionSpelling.{Spells, IsRefusalOf}
+use Rattle.hs_texts.specs.CanonicalText.{canonical}
+use Rattle.hs_texts.specs.MissionMeaning.{Means}
+use Rattle.hs_texts.specs.MissionSpelling.{Spells, IsRefusalOf}
 use Rattle.commands.specs.Inputs.{IsRefused}
 use Rattle.commands.specs.declared.status.Status.{Status}
 use Rattle.commands.specs.declared.status.Status.TheVariants.{Done, Refused}

@@ -3,7 +3,7 @@ use Rattle.std.specs.Prelude.{◌≡◌, ℕ, List, [], ◌∷◌, ◌++◌}
 use Rattle.hs_base.specs.declared.mission.Mission.{Mission}
 use Rattle.hs_base.specs.declared.plan.Extension.{Extension}
 use Rattle.hs_base.specs.Checked.{Checked}
-use Rattle.hs_base.specs.ClosingText.{no_plan_line, budget_line}
+use Rattle.hs_texts.specs.ClosingText.{no_plan_line, budget_line}
 use Rattle.search_tree.specs.Tree.{Found, plan, no_plan, budget}
 use Rattle.plan_search.specs.First.{FindsFirst}
 use Rattle.commands.specs.declared.status.Status.{Status}

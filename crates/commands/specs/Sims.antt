@@ -2,11 +2,11 @@
 use Rattle.std.specs.Prelude.{◌≡◌, ◌≢◌, ◌⊎◌, ℕ, List, [], ◌++◌, length, codes}
 use Rattle.hs_base.specs.declared.mission.Mission.{Mission}
 use Rattle.hs_base.specs.declared.plan.Extension.{Extension}
-use Rattle.hs_base.specs.declared.history.Entry.{Entry}
-use Rattle.hs_base.specs.declared.refusal.Refusal.{Refusal}
-use Rattle.hs_base.specs.ClosingText.{done_line}
-use Rattle.hs_base.specs.LogText.{log_text}
-use Rattle.hs_base.specs.RefusalText.{not_one_text}
+use Rattle.hs_machine.specs.declared.history.Entry.{Entry}
+use Rattle.hs_texts.specs.declared.refusal.Refusal.{Refusal}
+use Rattle.hs_texts.specs.ClosingText.{done_line}
+use Rattle.log_laws.specs.LogText.{log_text}
+use Rattle.hs_texts.specs.RefusalText.{not_one_text}
 use Rattle.flight_laws.specs.Flights.{HasNoDevices, IsFlight, EndsByFiring, mark_of}
 use Rattle.commands.specs.Inputs.{IsInFront, IsFrontRefusalOf, EndsAt, IsGiven, IsBehindRefusal, IsRefused}
 use Rattle.commands.specs.Checks.{IsFaulty}

@@ -2,14 +2,15 @@ ghost use Rattle.std.specs.Prelude.{◌≡◌, ◌≢◌, ◌<◌, IfOk, IfErr};
 ghost use Rattle.hs_base.specs.declared.fault.Fault.TheVariants.{Memory as NoMemoryLeft};
 ghost use Rattle.hs_base.specs.Missions.{IsMission};
 ghost use Rattle.hs_base.specs.Checked.{Checked};
-ghost use Rattle.hs_base.specs.ClosingText.{checked_line};
+ghost use Rattle.hs_texts.specs.ClosingText.{checked_line};
 ghost use Rattle.commands.specs.Checks.{IsFlaw, IsFaulty, Judges, Checks};
 
 use crate::input::given;
 use crate::outcome::refused;
 use crate::{Outcome, Status};
 use answer_lines::{fault_line, push_checked};
-use hs_base::{Copies, Extension, Fault, Memory, Mission, Plan, Text};
+use hs_base::{Copies, Extension, Fault, Memory, Mission, Plan};
+use hs_texts::Text;
 use plan_check::CheckedPlan;
 use std::alloc::Global;
 

@@ -1,11 +1,12 @@
 ghost use Rattle.std.specs.Prelude.{MatchResult};
-ghost use Rattle.hs_base.specs.MissionSpelling.{IsRefusalOf};
+ghost use Rattle.hs_texts.specs.MissionSpelling.{IsRefusalOf};
 ghost use Rattle.text_laws.specs.Refused.{OrMemory};
 ghost use Rattle.commands.specs.Inputs.{IsWhole, IsInFront, IsFrontRefusalOf, IsGiven, IsGivenRefusal};
 
 use ddl_read::{Pieces, read, read_front};
 use domain_check::accept;
-use hs_base::{Mission, Plan, Refusal};
+use hs_base::{Mission, Plan};
+use hs_texts::Refusal;
 use std::alloc::Global;
 
 /// The accepted mission that a text spells.

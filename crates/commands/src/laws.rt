@@ -1,12 +1,12 @@
 // The laws of what commands make of good inputs.
 ghost use Rattle.std.specs.Prelude.{◌≡◌, ℕ, List, [], length};
-ghost use Rattle.hs_base.specs.declared.ast.Ast.{Ast};
+ghost use Rattle.hs_texts.specs.declared.ast.Ast.{Ast};
 ghost use Rattle.hs_base.specs.declared.mission.Mission.{Mission};
 ghost use Rattle.hs_base.specs.declared.plan.Extension.{Extension};
-ghost use Rattle.hs_base.specs.CanonicalText.{canonical};
+ghost use Rattle.hs_texts.specs.CanonicalText.{canonical};
 ghost use Rattle.hs_base.specs.Checked.{Checked};
-ghost use Rattle.hs_base.specs.ClosingText.{checked_line};
-ghost use Rattle.hs_base.specs.LogText.{log_text};
+ghost use Rattle.hs_texts.specs.ClosingText.{checked_line};
+ghost use Rattle.log_laws.specs.LogText.{log_text};
 ghost use Rattle.search_tree.specs.Tree.{Found};
 ghost use Rattle.plan_search.specs.First.{FindsFirst};
 ghost use Rattle.commands.specs.Inputs.{IsGiven, IsWhole};

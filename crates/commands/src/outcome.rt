@@ -3,7 +3,8 @@ ghost use Rattle.commands.specs.Inputs.{IsTold};
 
 use crate::Status;
 use answer_lines::refusal_line;
-use hs_base::{Memory, Refusal, Text};
+use hs_base::Memory;
+use hs_texts::{Refusal, Text};
 use std::alloc::Global;
 
 /// A status, and the text that is written with it.

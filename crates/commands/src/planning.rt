@@ -10,7 +10,8 @@ use crate::outcome::refused;
 use crate::{Outcome, Status};
 use answer_lines::{push_budget, push_no_plan};
 use edge_filter::reform;
-use hs_base::{Memory, Mission, Text};
+use hs_base::{Memory, Mission};
+use hs_texts::Text;
 use plan_search::{Unplanned, first_plan};
 use std::alloc::Global;
 

@@ -1,5 +1,5 @@
 ghost use Rattle.std.specs.Prelude.{IfOk, MatchResult};
-ghost use Rattle.hs_base.specs.MissionSpelling.{IsRefusalOf};
+ghost use Rattle.hs_texts.specs.MissionSpelling.{IsRefusalOf};
 ghost use Rattle.text_laws.specs.Refused.{OrMemory};
 ghost use Rattle.commands.specs.Prints.{IsAccepted, Prints};
 
@@ -7,7 +7,8 @@ use crate::outcome::refused;
 use crate::{Outcome, Status};
 use ddl_read::read;
 use domain_check::accept;
-use hs_base::{Ast, Memory, Refusal};
+use hs_base::Memory;
+use hs_texts::{Ast, Refusal};
 use std::alloc::Global;
 
 /// The accepted mission that a text spells, as it is written.

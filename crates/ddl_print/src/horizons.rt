@@ -1,8 +1,9 @@
 ghost use Rattle.std.specs.Prelude.{◌≡◌, ◌++◌, flat_map, OnOk};
-ghost use Rattle.hs_base.specs.CanonicalText.{is_whole as is_whole_spec, goal_range, goal_line, horizon_lines};
+ghost use Rattle.hs_texts.specs.CanonicalText.{is_whole as is_whole_spec, goal_range, goal_line, horizon_lines};
 
 use crate::parts::{push_kind, push_range};
-use hs_base::{AstGoal, AstHorizon, LAST, Memory, Range, Text};
+use hs_base::{LAST, Memory, Range};
+use hs_texts::{AstGoal, AstHorizon, Text};
 use plan_text::push_signed;
 
 /// Whether the range is `[0,inf]`, which a goal's text leaves out.

@@ -1,13 +1,14 @@
 ghost use Rattle.std.specs.Prelude.{◌≡◌, ◌≤◌, ℕ, List, length, IfOk};
-ghost use Rattle.hs_base.specs.declared.ast.Ast.{Ast as AstOf};
+ghost use Rattle.hs_texts.specs.declared.ast.Ast.{Ast as AstOf};
 ghost use Rattle.hs_base.specs.declared.limits.TheConstants.{TEXT_BYTES};
-ghost use Rattle.hs_base.specs.CanonicalText.{canonical};
-ghost use Rattle.hs_base.specs.MissionSpelling.{Spells};
+ghost use Rattle.hs_texts.specs.CanonicalText.{canonical};
+ghost use Rattle.hs_texts.specs.MissionSpelling.{Spells};
 
 use crate::horizons::push_horizons;
 use crate::needs::push_needs;
 use crate::values::push_vars;
-use hs_base::{Ast, Memory, Text};
+use hs_base::Memory;
+use hs_texts::{Ast, Text};
 use plan_text::push_number;
 use std::alloc::Global;
 

@@ -1,8 +1,9 @@
 ghost use Rattle.std.specs.Prelude.{◌≡◌, ◌++◌, codes, flat_map, map, OnOk};
-ghost use Rattle.hs_base.specs.CanonicalText.{apart, range_text, relation_text, choice_text, need_line};
+ghost use Rattle.hs_texts.specs.CanonicalText.{apart, range_text, relation_text, choice_text, need_line};
 
 use crate::parts::{push_kind, push_range};
-use hs_base::{AstChoice, AstNeed, Memory, Range, Relation, Text};
+use hs_base::{Memory, Range, Relation};
+use hs_texts::{AstChoice, AstNeed, Text};
 
 fn push_with_range(text: &mut Text, keyword: &[u8], range: Range) -> Result<(), Memory>
     ensures { OnOk result (text.new ≡ text.old ++ (keyword.now ++ range_text range)) }

@@ -1,7 +1,8 @@
 ghost use Rattle.std.specs.Prelude.{◌≡◌, ◌++◌, OnOk};
-ghost use Rattle.hs_base.specs.CanonicalText.{limit_text, range_text, use_text, kind_text};
+ghost use Rattle.hs_texts.specs.CanonicalText.{limit_text, range_text, use_text, kind_text};
 
-use hs_base::{AstKind, LAST, Memory, Range, Text, Use};
+use hs_base::{LAST, Memory, Range};
+use hs_texts::{AstKind, Text, Use};
 use plan_text::push_signed;
 
 /// Puts a limit of a range at the end; the last tick is `inf`.

@@ -1,7 +1,8 @@
 ghost use Rattle.std.specs.Prelude.{◌≡◌, ◌++◌, codes, flat_map, map, OnOk};
-ghost use Rattle.hs_base.specs.CanonicalText.{apart, step_text, is_until_done as is_until_done_spec, script_line, said_text, answers_line};
+ghost use Rattle.hs_texts.specs.CanonicalText.{apart, step_text, is_until_done as is_until_done_spec, script_line, said_text, answers_line};
 
-use hs_base::{AstSaid, AstStep, List, Memory, Text};
+use hs_base::{List, Memory};
+use hs_texts::{AstSaid, AstStep, Text};
 use plan_text::push_signed;
 
 fn push_step(text: &mut Text, step: &AstStep) -> Result<(), Memory>

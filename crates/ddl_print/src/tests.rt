@@ -1,8 +1,6 @@
 use crate::print;
-use hs_base::{
-    Ast, AstChoice, AstGoal, AstHorizon, AstKind, AstNeed, AstSaid, AstStep, AstValue, AstVar,
-    LAST, List, Memory, Name, Range, Relation, Use,
-};
+use hs_base::{LAST, List, Memory, Name, Range, Relation};
+use hs_texts::{Ast, AstChoice, AstGoal, AstHorizon, AstKind, AstNeed, AstSaid, AstStep, AstValue, AstVar, Use};
 use std::alloc::Global;
 use std::test::Fail;
 

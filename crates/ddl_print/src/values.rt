@@ -1,9 +1,10 @@
 ghost use Rattle.std.specs.Prelude.{◌≡◌, ◌++◌, [], cond, codes, flat_map, map, OnOk};
-ghost use Rattle.hs_base.specs.CanonicalText.{apart, use_text, next_text, lasts_text, script_line, answers_line, value_lines, begin_line, var_lines};
+ghost use Rattle.hs_texts.specs.CanonicalText.{apart, use_text, next_text, lasts_text, script_line, answers_line, value_lines, begin_line, var_lines};
 
 use crate::parts::{push_range, push_use};
 use crate::scripts::{push_all_answers, push_script};
-use hs_base::{AstValue, AstVar, Memory, Range, Text, Use};
+use hs_base::{Memory, Range};
+use hs_texts::{AstValue, AstVar, Text, Use};
 
 /// Puts ranges at the end, with a space between them.
 fn push_lasts(text: &mut Text, ranges: &[Range]) -> Result<(), Memory>

@@ -5,7 +5,7 @@ use Rattle.std.proofs.lemmas.List.Folds.{list_all_more}
 use Rattle.std.proofs.lemmas.List.Sums.{fold-append, fold_more}
 use Rattle.std.proofs.lemmas.Bool.Decides.{nat_tests}
 use Rattle.std.specs.List.{list_all}
-use Rattle.hs_base.specs.Pieces.{begins, number_of}
+use Rattle.hs_texts.specs.Pieces.{begins, number_of}
 use Rattle.ddl_read.specs.Spelled.{kept_number}
 
 -- one more byte of a run

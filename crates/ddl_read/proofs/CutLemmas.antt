@@ -8,7 +8,7 @@ use Rattle.std.proofs.lemmas.List.{map-append, length-map}
 use Rattle.std.specs.Prelude.{cond, ◌||◌, pos, ◌+ℤ◌, int_lt, slice_get, Some}
 use Rattle.std.proofs.lemmas.Bool.Decides.{nat_tests}
 use Rattle.hs_base.specs.declared.limits.TheConstants.{LAST, TEXT_BYTES}
-use Rattle.hs_base.specs.Pieces.{Piece as Spelling, word, number, symbol, number_of, is_large, is_space, IsBadNumber, Placed, IsPiece, begins, bytes_of, begins_no_piece, after_gap, StandsFirst, Cuts, AreCut, IsBadChar}
+use Rattle.hs_texts.specs.Pieces.{Piece as Spelling, word, number, symbol, number_of, is_large, is_space, IsBadNumber, Placed, IsPiece, begins, bytes_of, begins_no_piece, after_gap, StandsFirst, Cuts, AreCut, IsBadChar}
 use Rattle.ddl_read.specs.declared.piece.Piece.{Piece}
 use Rattle.ddl_read.specs.declared.piece.PieceKind.{PieceKind}
 use Rattle.ddl_read.specs.declared.piece.PieceKind.TheVariants.{Word, Number, Symbol}

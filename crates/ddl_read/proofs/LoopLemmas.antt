@@ -1,8 +1,8 @@
 -- The turns of a loop that reads items.
 use Rattle.std.proofs.Common.{◌≡◌, Bool, true, false, List, [], ◌∷◌, ◌++◌, refl, sym, ap, ◌∙◌, append_assoc, append-nil}
 use Rattle.std.specs.Prelude.{Option, Err}
-use Rattle.hs_base.specs.Pieces.{Piece as Spelling}
-use Rattle.hs_base.specs.Languages.{Language}
+use Rattle.hs_texts.specs.Pieces.{Piece as Spelling}
+use Rattle.hs_texts.specs.Languages.{Language}
 use Rattle.text_laws.specs.Parsers.{Read, done, stuck, Parser, next, many}
 use Rattle.text_laws.proofs.ManyLemmas.{AreItems, in_front, many_stop, many_halt, many_more}
 use Rattle.ddl_read.specs.Loops.{with_front}

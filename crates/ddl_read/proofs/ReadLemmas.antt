@@ -3,11 +3,11 @@ use Rattle.std.proofs.Common.{◌≡◌, ℕ, zero, suc, drop, ◌+◌, ◌<◌,
 use Rattle.std.specs.Prelude.{pos, cond}
 use Rattle.std.specs.List.{AllByRecursion, list_any}
 use Rattle.std.proofs.lemmas.List.{length-map}
-use Rattle.hs_base.specs.declared.ast.Ast.{Ast}
-use Rattle.hs_base.specs.Pieces.{Piece as Spelling, Placed, number_of, is_large, pieces_of, place_in}
-use Rattle.hs_base.specs.Languages.{IsExpected}
-use Rattle.hs_base.specs.MissionText.{MissionText}
-use Rattle.hs_base.specs.MissionSpelling.{Spells, SpellsFront, IsExpectedIn, IsTrailingIn}
+use Rattle.hs_texts.specs.declared.ast.Ast.{Ast}
+use Rattle.hs_texts.specs.Pieces.{Piece as Spelling, Placed, number_of, is_large, pieces_of, place_in}
+use Rattle.hs_texts.specs.Languages.{IsExpected}
+use Rattle.hs_texts.specs.MissionText.{MissionText}
+use Rattle.hs_texts.specs.MissionSpelling.{Spells, SpellsFront, IsExpectedIn, IsTrailingIn}
 use Rattle.text_laws.specs.Parsers.{done, stuck}
 use Rattle.text_laws.specs.MissionReading.{mission_at}
 use Rattle.text_laws.proofs.PieceLemmas.{cut_one}

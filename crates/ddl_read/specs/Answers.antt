@@ -1,6 +1,6 @@
 -- What the reader's methods answer.
 use Rattle.std.specs.Prelude.{◌≡◌, List, Result, Ok, Err}
-use Rattle.hs_base.specs.Pieces.{Piece as Spelling}
+use Rattle.hs_texts.specs.Pieces.{Piece as Spelling}
 use Rattle.text_laws.specs.Parsers.{Read, done, stuck}
 use Rattle.ddl_read.specs.declared.unread.Unread.{Unread}
 use Rattle.ddl_read.specs.declared.unread.Unread.TheVariants.{Text, Memory}

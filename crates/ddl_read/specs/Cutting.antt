@@ -3,9 +3,9 @@ use Rattle.std.specs.Prelude.{◌≡◌, ℕ, ◌+◌, ◌<◌, ◌≤◌, Bool,
 use Rattle.std.specs.List.{AllByRecursion, list_any}
 use Rattle.std.specs.Str.{IsValidUpTo}
 use Rattle.hs_base.specs.declared.limits.TheConstants.{LAST}
-use Rattle.hs_base.specs.declared.refusal.Refusal.{Refusal}
-use Rattle.hs_base.specs.declared.refusal.Refusal.TheVariants.{Char, NotUtf8}
-use Rattle.hs_base.specs.Pieces.{after_gap, begins_no_piece, StandsFirst, Cuts, AreCut, IsBadChar, IsTextOf}
+use Rattle.hs_texts.specs.declared.refusal.Refusal.{Refusal}
+use Rattle.hs_texts.specs.declared.refusal.Refusal.TheVariants.{Char, NotUtf8}
+use Rattle.hs_texts.specs.Pieces.{after_gap, begins_no_piece, StandsFirst, Cuts, AreCut, IsBadChar, IsTextOf}
 use Rattle.ddl_read.specs.declared.piece.Piece.{Piece}
 use Rattle.ddl_read.specs.declared.piece.PieceKind.{PieceKind}
 use Rattle.ddl_read.specs.declared.piece.PieceKind.TheVariants.{Word, Number, Symbol}

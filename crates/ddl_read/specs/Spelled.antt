@@ -2,8 +2,8 @@
 use Rattle.std.specs.Prelude.{◌≡◌, ℕ, ◌+◌, ◌≤◌, cond, ℤ, pos, ◌+ℤ◌, List, map, take, drop, length}
 use Rattle.std.specs.List.{AllByRecursion}
 use Rattle.hs_base.specs.declared.limits.TheConstants.{LAST}
-use Rattle.hs_base.specs.Pieces.{Placed, number_of, is_large}
-use Rattle.hs_base.specs.Pieces.{Piece as Spelling, word, number, symbol}
+use Rattle.hs_texts.specs.Pieces.{Placed, number_of, is_large}
+use Rattle.hs_texts.specs.Pieces.{Piece as Spelling, word, number, symbol}
 use Rattle.ddl_read.specs.declared.piece.Piece.{Piece}
 use Rattle.ddl_read.specs.declared.piece.PieceKind.{PieceKind}
 use Rattle.ddl_read.specs.declared.piece.PieceKind.TheVariants.{Word, Number, Symbol}

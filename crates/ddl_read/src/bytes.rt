@@ -1,6 +1,6 @@
 ghost use Rattle.std.specs.Prelude.{◌≡◌, ◌+◌, ◌-◌, ◌<◌, ◌≤◌, true, false, length, drop, slice_range};
 ghost use Rattle.std.specs.List.{list_all};
-ghost use Rattle.hs_base.specs.Pieces.{after_gap, begins, is_letter as is_letter_spec, is_digit as is_digit_spec, is_word_byte as is_word_byte_spec, is_symbol as is_symbol_spec, is_space as is_space_spec};
+ghost use Rattle.hs_texts.specs.Pieces.{after_gap, begins, is_letter as is_letter_spec, is_digit as is_digit_spec, is_word_byte as is_word_byte_spec, is_symbol as is_symbol_spec, is_space as is_space_spec};
 
 /// Whether a byte is an ASCII letter.
 pub fn is_letter(byte: u8) -> bool

@@ -4,7 +4,8 @@ ghost use Rattle.ddl_read.specs.Cutting.{AreAll, IsCharRefusal};
 
 use crate::Piece;
 use crate::next::{Next, next_piece};
-use hs_base::{List, Refusal};
+use hs_base::List;
+use hs_texts::Refusal;
 use std::alloc::Global;
 
 /// The pieces of a text.

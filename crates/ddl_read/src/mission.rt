@@ -6,7 +6,8 @@ ghost use Rattle.ddl_read.specs.Answers.{Gives};
 
 use crate::reader::Reader;
 use crate::unread::Unread;
-use hs_base::{Ast, AstGoal, AstHorizon, AstNeed, AstVar, LAST, List, Range};
+use hs_base::{LAST, List, Range};
+use hs_texts::{Ast, AstGoal, AstHorizon, AstNeed, AstVar};
 use std::alloc::Global;
 
 /// The range of a goal whose text has none.

@@ -5,7 +5,8 @@ ghost use Rattle.ddl_read.specs.Answers.{Gives};
 
 use crate::reader::Reader;
 use crate::unread::Unread;
-use hs_base::{AstChoice, AstNeed, List, Memory, Relation};
+use hs_base::{List, Memory, Relation};
+use hs_texts::{AstChoice, AstNeed};
 use std::alloc::Global;
 
 /// A choice, and further ones behind it.

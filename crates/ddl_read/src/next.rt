@@ -1,12 +1,12 @@
 ghost use Rattle.std.specs.Prelude.{◌≡◌, ◌+◌, ◌<◌, ◌≤◌, ◌^◌, true, length, drop, slice_range, IfSome};
-ghost use Rattle.hs_base.specs.Pieces.{IsPiece, begins, bytes_of, begins_no_piece};
+ghost use Rattle.hs_texts.specs.Pieces.{IsPiece, begins, bytes_of, begins_no_piece};
 ghost use Rattle.ddl_read.specs.Spelled.{KeepsNumber, spelling};
 ghost use Rattle.ddl_read.specs.Cutting.{IsNext};
 
 use crate::bytes::{digits_end, gap_end, is_digit, is_letter, is_symbol, word_end};
 use crate::number::number_of;
 use crate::{Piece, PieceKind};
-use hs_base::Refusal;
+use hs_texts::Refusal;
 
 /// The kind of the piece that begins at `at`, and where it ends; none where no piece begins there.
 pub fn piece_at(text: &[u8], at: usize) -> Option<(PieceKind, usize)>

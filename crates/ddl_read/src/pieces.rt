@@ -1,6 +1,6 @@
 ghost use Rattle.std.specs.Prelude.{◌≡◌, ◌<◌, ◌^◌, length, map, drop, slice_get, OnOk, IfErr, MatchResult};
 ghost use Rattle.std.specs.Str.{IsUtf8};
-ghost use Rattle.hs_base.specs.Pieces.{IsCutRefusal, place_in};
+ghost use Rattle.hs_texts.specs.Pieces.{IsCutRefusal, place_in};
 ghost use Rattle.text_laws.specs.Refused.{OrMemory};
 ghost use Rattle.ddl_read.specs.Spelled.{placed, spellings};
 ghost use Rattle.ddl_read.specs.Cutting.{IsCut, IsUtf8Refusal};
@@ -9,7 +9,8 @@ use crate::Piece;
 use crate::cut::cut_pieces;
 use crate::large::first_large;
 use crate::reader::Reader;
-use hs_base::{List, Refusal, TEXT_BYTES};
+use hs_base::{List, TEXT_BYTES};
+use hs_texts::Refusal;
 use std::alloc::Global;
 use std::marker::Model;
 use std::str::from_utf8;

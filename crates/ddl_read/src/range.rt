@@ -4,7 +4,8 @@ ghost use Rattle.ddl_read.specs.Answers.{Gives};
 
 use crate::reader::Reader;
 use crate::unread::Unread;
-use hs_base::{AstKind, LAST, List, Range, Use};
+use hs_base::{LAST, List, Range};
+use hs_texts::{AstKind, Use};
 use std::alloc::Global;
 
 impl<'a> Reader<'a> {

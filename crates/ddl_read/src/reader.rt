@@ -1,5 +1,5 @@
 ghost use Rattle.std.specs.Prelude.{◌≡◌, ◌+◌, length};
-ghost use Rattle.hs_base.specs.Languages.{word_says, symbol_says};
+ghost use Rattle.hs_texts.specs.Languages.{word_says, symbol_says};
 ghost use Rattle.text_laws.specs.Parsers.{next, one, is_word, is_sign, number};
 ghost use Rattle.text_laws.specs.MissionReading.{version_at, name_at};
 ghost use Rattle.ddl_read.specs.Spelled.{AreSpelled, spellings};
@@ -21,7 +21,7 @@ pub struct Reader<'a> {
 
 impl<'a> Model for Reader<'a> {
     ghost use Rattle.std.specs.Prelude.{List};
-    ghost use Rattle.hs_base.specs.Pieces.{Piece as Spelling};
+    ghost use Rattle.hs_texts.specs.Pieces.{Piece as Spelling};
     ghost use Rattle.ddl_read.specs.Spelled.{spellings, AreSpelled};
 
     ghost Value = { List Spelling };

@@ -1,11 +1,11 @@
 ghost use Rattle.std.specs.Prelude.{◌≡◌, ◌+◌, ◌≤◌, length, MatchResult};
-ghost use Rattle.hs_base.specs.MissionSpelling.{Spells, SpellsFront, IsFrontRefusal, IsReadRefusal};
+ghost use Rattle.hs_texts.specs.MissionSpelling.{Spells, SpellsFront, IsFrontRefusal, IsReadRefusal};
 ghost use Rattle.text_laws.specs.Refused.{OrMemory};
 
 use crate::Pieces;
 use crate::reader::Reader;
 use crate::unread::Unread;
-use hs_base::{Ast, Refusal};
+use hs_texts::{Ast, Refusal};
 use std::alloc::Global;
 
 /// The number of pieces before the last `left`.

@@ -1,13 +1,14 @@
 ghost use Rattle.std.specs.Prelude.{◌≡◌, codes, IfOk};
 ghost use Rattle.std.specs.List.{flat_map};
-ghost use Rattle.hs_base.specs.MissionText.{until_done as until_done_spec};
+ghost use Rattle.hs_texts.specs.MissionText.{until_done as until_done_spec};
 ghost use Rattle.text_laws.specs.Parsers.{apart, behind, is_word, many};
 ghost use Rattle.text_laws.specs.MissionReading.{do_at, until_at, part_at, parts_at, script_at, said_at, answers_at};
 ghost use Rattle.ddl_read.specs.Answers.{Gives};
 
 use crate::reader::Reader;
 use crate::unread::Unread;
-use hs_base::{AstSaid, AstStep, List, Memory, Name};
+use hs_base::{List, Memory, Name};
+use hs_texts::{AstSaid, AstStep};
 use std::alloc::Global;
 
 /// The steps of all parts, one after another.

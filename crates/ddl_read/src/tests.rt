@@ -1,5 +1,6 @@
 use crate::{Piece, PieceKind, Pieces, read, read_front};
-use hs_base::{LAST, List, Name, Refusal};
+use hs_base::{LAST, List, Name};
+use hs_texts::Refusal;
 use std::test::Fail;
 
 const CAMERA: &[u8] =

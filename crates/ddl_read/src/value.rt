@@ -5,7 +5,8 @@ ghost use Rattle.ddl_read.specs.Answers.{Gives};
 
 use crate::reader::Reader;
 use crate::unread::Unread;
-use hs_base::{AstValue, AstVar, List, Memory, Name, Range, Use};
+use hs_base::{List, Memory, Name, Range};
+use hs_texts::{AstValue, AstVar, Use};
 use std::alloc::Global;
 
 /// The list of one range.

@@ -8,20 +8,20 @@ use Rattle.std.specs.Str.{bytes_eq}
 use Rattle.hs_base.specs.declared.limits.TheConstants.{VARIABLES, VALUES, NEEDS, CHOICES, HORIZONS, LAST_HORIZON, GOALS, SCRIPT_STEPS, ANSWER_CLAUSES, ANSWERS}
 use Rattle.hs_base.specs.declared.mission.Horizon.{Horizon}
 use Rattle.hs_base.specs.declared.mission.Var.{Var}
-use Rattle.hs_base.specs.declared.ast.Ast.{Ast}
-use Rattle.hs_base.specs.declared.ast.AstChoice.{AstChoice}
-use Rattle.hs_base.specs.declared.ast.AstGoal.{AstGoal}
-use Rattle.hs_base.specs.declared.ast.AstHorizon.{AstHorizon}
-use Rattle.hs_base.specs.declared.ast.AstKind.{AstKind}
-use Rattle.hs_base.specs.declared.ast.AstNeed.{AstNeed}
-use Rattle.hs_base.specs.declared.ast.AstSaid.{AstSaid}
-use Rattle.hs_base.specs.declared.ast.AstValue.{AstValue}
-use Rattle.hs_base.specs.declared.ast.AstVar.{AstVar}
-use Rattle.hs_base.specs.declared.ast.Use.{Use}
+use Rattle.hs_texts.specs.declared.ast.Ast.{Ast}
+use Rattle.hs_texts.specs.declared.ast.AstChoice.{AstChoice}
+use Rattle.hs_texts.specs.declared.ast.AstGoal.{AstGoal}
+use Rattle.hs_texts.specs.declared.ast.AstHorizon.{AstHorizon}
+use Rattle.hs_texts.specs.declared.ast.AstKind.{AstKind}
+use Rattle.hs_texts.specs.declared.ast.AstNeed.{AstNeed}
+use Rattle.hs_texts.specs.declared.ast.AstSaid.{AstSaid}
+use Rattle.hs_texts.specs.declared.ast.AstValue.{AstValue}
+use Rattle.hs_texts.specs.declared.ast.AstVar.{AstVar}
+use Rattle.hs_texts.specs.declared.ast.Use.{Use}
 use Rattle.hs_base.specs.Walks.{join_after, AreDifferent}
 use Rattle.hs_base.specs.Missions.{IsMission, IsNeed, IsVar, IsHorizon}
-use Rattle.hs_base.specs.MissionMeaning.{var_names, value_names, words_of_value, words_of, word_table, Means}
-use Rattle.hs_base.specs.MissionRefusals.{is_among, places, again, names_again, value_again, var_again, next_names, begin_names, unknown_in, unknown_in_var, unknown_in_kind, kinds_of_need, kinds_of, is_exchanged, is_no_duration, ranges_of_relation, ranges_of_goal, durations, distances, from_one_to, all_values, limits_kept, lacks_begin, is_early, asks_itself, asks_twice}
+use Rattle.hs_texts.specs.MissionMeaning.{var_names, value_names, words_of_value, words_of, word_table, Means}
+use Rattle.hs_texts.specs.MissionRefusals.{is_among, places, again, names_again, value_again, var_again, next_names, begin_names, unknown_in, unknown_in_var, unknown_in_kind, kinds_of_need, kinds_of, is_exchanged, is_no_duration, ranges_of_relation, ranges_of_goal, durations, distances, from_one_to, all_values, limits_kept, lacks_begin, is_early, asks_itself, asks_twice}
 use Rattle.base_laws.proofs.ListLemmas.{each_split, each_weaker}
 use Rattle.domain_check.specs.Numbering.{var_of, need_of, horizon_of, mission_of}
 use Rattle.domain_check.specs.Rules.{KeepsRules}

@@ -14,26 +14,26 @@ use Rattle.hs_base.specs.declared.mission.Said.{Said}
 use Rattle.hs_base.specs.declared.ids.ValId.{ValId}
 use Rattle.hs_base.specs.declared.mission.Value.{Value}
 use Rattle.hs_base.specs.declared.range.Range.{Range}
-use Rattle.hs_base.specs.declared.ast.AstChoice.{AstChoice}
-use Rattle.hs_base.specs.declared.ast.AstStep.TheVariants.{Do as AstDo, Until as AstUntil}
-use Rattle.hs_base.specs.declared.ast.AstGoal.{AstGoal}
-use Rattle.hs_base.specs.declared.ast.AstHorizon.{AstHorizon}
-use Rattle.hs_base.specs.declared.ast.AstKind.{AstKind}
-use Rattle.hs_base.specs.declared.ast.AstNeed.{AstNeed}
-use Rattle.hs_base.specs.declared.ast.AstSaid.{AstSaid}
-use Rattle.hs_base.specs.declared.ast.AstStep.{AstStep}
-use Rattle.hs_base.specs.declared.ast.AstValue.{AstValue}
-use Rattle.hs_base.specs.declared.ast.AstVar.{AstVar}
-use Rattle.hs_base.specs.declared.ast.Use.{Use}
+use Rattle.hs_texts.specs.declared.ast.AstChoice.{AstChoice}
+use Rattle.hs_texts.specs.declared.ast.AstStep.TheVariants.{Do as AstDo, Until as AstUntil}
+use Rattle.hs_texts.specs.declared.ast.AstGoal.{AstGoal}
+use Rattle.hs_texts.specs.declared.ast.AstHorizon.{AstHorizon}
+use Rattle.hs_texts.specs.declared.ast.AstKind.{AstKind}
+use Rattle.hs_texts.specs.declared.ast.AstNeed.{AstNeed}
+use Rattle.hs_texts.specs.declared.ast.AstSaid.{AstSaid}
+use Rattle.hs_texts.specs.declared.ast.AstStep.{AstStep}
+use Rattle.hs_texts.specs.declared.ast.AstValue.{AstValue}
+use Rattle.hs_texts.specs.declared.ast.AstVar.{AstVar}
+use Rattle.hs_texts.specs.declared.ast.Use.{Use}
 use Rattle.std.specs.Str.{bytes_eq}
 use Rattle.std.specs.Cmp.Lexicographic.{bytes_decides}
 use Rattle.hs_base.specs.Names.{IsName}
 use Rattle.hs_base.specs.Ranges.{range, InRange, IsRange}
 use Rattle.hs_base.specs.Walks.{AreDifferent}
-use Rattle.hs_base.specs.CanonicalText.{is_whole}
+use Rattle.hs_texts.specs.CanonicalText.{is_whole}
 use Rattle.hs_base.specs.Missions.{IsKindOf, HasRanges, IsStep, IsSaid, ends_waiting, IsValue, IsVar, IsChoice, IsNeed, IsGoal, IsHorizon}
-use Rattle.hs_base.specs.MissionMeaning.{KindMeans, var_names, value_names, step_word, words_of_value}
-use Rattle.hs_base.specs.MissionRefusals.{is_among, names_again, next_names, is_exchanged, is_no_duration, ranges_of_relation, ranges_of_goal, from_one_to, asks_twice}
+use Rattle.hs_texts.specs.MissionMeaning.{KindMeans, var_names, value_names, step_word, words_of_value}
+use Rattle.hs_texts.specs.MissionRefusals.{is_among, names_again, next_names, is_exchanged, is_no_duration, ranges_of_relation, ranges_of_goal, from_one_to, asks_twice}
 use Rattle.base_laws.proofs.ListLemmas.{each_split, each_weaker}
 use Rattle.domain_check.specs.Numbering.{number_in, value_id, kind_of, step_of, said_of, range_of, value_of, begin_of, var_of, choice_of, need_of, goal_of, horizon_of}
 use Rattle.text_laws.specs.Writable.{AreLimits, IsWritableStep, ends_awaiting, IsWritableSaid, AreWritableAnswers, IsWritableValue, HasLimits, IsWritableGoal}

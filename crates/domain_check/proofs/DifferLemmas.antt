@@ -6,14 +6,14 @@ use Rattle.std.specs.List.{AllByRecursion, list_any}
 use Rattle.std.specs.Str.{bytes_eq}
 use Rattle.std.specs.Cmp.Lexicographic.{bytes_decides}
 use Rattle.hs_base.specs.declared.mission.Kind.{Kind}
-use Rattle.hs_base.specs.declared.ast.AstVar.{AstVar}
-use Rattle.hs_base.specs.declared.ast.AstKind.{AstKind}
-use Rattle.hs_base.specs.declared.ast.AstChoice.{AstChoice}
-use Rattle.hs_base.specs.declared.ast.Use.{Use}
+use Rattle.hs_texts.specs.declared.ast.AstVar.{AstVar}
+use Rattle.hs_texts.specs.declared.ast.AstKind.{AstKind}
+use Rattle.hs_texts.specs.declared.ast.AstChoice.{AstChoice}
+use Rattle.hs_texts.specs.declared.ast.Use.{Use}
 use Rattle.hs_base.specs.declared.ids.ValId.{ValId}
 use Rattle.hs_base.specs.Walks.{EachAfter, AreDifferent}
-use Rattle.hs_base.specs.MissionMeaning.{KindMeans, var_names, value_names}
-use Rattle.hs_base.specs.MissionRefusals.{is_among, again, names_again, same_written_kind, asks_twice}
+use Rattle.hs_texts.specs.MissionMeaning.{KindMeans, var_names, value_names}
+use Rattle.hs_texts.specs.MissionRefusals.{is_among, again, names_again, same_written_kind, asks_twice}
 use Rattle.base_laws.proofs.ListLemmas.{each_weaker}
 use Rattle.domain_check.specs.Numbering.{number_in, number_in_var, var_named, kind_of, value_id}
 use Rattle.domain_check.proofs.EachLemmas.{none_chosen, after_none, none_after, each_fails, fails_each, different_unmapped, different_mapped}

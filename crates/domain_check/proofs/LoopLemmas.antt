@@ -4,7 +4,7 @@ use Rattle.std.proofs.lemmas.Grind.{flat_map-append}
 use Rattle.std.proofs.lemmas.List.{at_drop_more, take_more, map-append}
 use Rattle.std.specs.List.{list_any}
 use Rattle.std.specs.Str.{bytes_eq}
-use Rattle.hs_base.specs.MissionMeaning.{first_seen}
+use Rattle.hs_texts.specs.MissionMeaning.{first_seen}
 
 -- what is pushed of one element after the other
 pub pushed : {X Z B : Type 0} (f : Z → B) (g : X → List Z) (front made more : List B) (xs : List X) (i : ℕ) (x : X) → i < length xs → x ≡ get_or xs i x → made ≡ front ++ map f (flat_map g (take i xs)) → more ≡ made ++ map f (g x) → more ≡ front ++ map f (flat_map g (take (i + 1) xs))

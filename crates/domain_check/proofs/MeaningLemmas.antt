@@ -8,20 +8,20 @@ use Rattle.std.specs.Cmp.Lexicographic.{bytes_decides}
 use Rattle.hs_base.specs.declared.mission.Kind.{Kind}
 use Rattle.hs_base.specs.declared.ids.ValId.{ValId}
 use Rattle.hs_base.specs.declared.range.Range.{Range}
-use Rattle.hs_base.specs.declared.ast.Ast.{Ast}
-use Rattle.hs_base.specs.declared.ast.AstChoice.{AstChoice}
-use Rattle.hs_base.specs.declared.ast.AstStep.TheVariants.{Do as AstDo, Until as AstUntil}
-use Rattle.hs_base.specs.declared.ast.AstGoal.{AstGoal}
-use Rattle.hs_base.specs.declared.ast.AstHorizon.{AstHorizon}
-use Rattle.hs_base.specs.declared.ast.AstKind.{AstKind}
-use Rattle.hs_base.specs.declared.ast.AstNeed.{AstNeed}
-use Rattle.hs_base.specs.declared.ast.AstSaid.{AstSaid}
-use Rattle.hs_base.specs.declared.ast.AstStep.{AstStep}
-use Rattle.hs_base.specs.declared.ast.AstValue.{AstValue}
-use Rattle.hs_base.specs.declared.ast.AstVar.{AstVar}
-use Rattle.hs_base.specs.declared.ast.Use.{Use}
-use Rattle.hs_base.specs.MissionMeaning.{IsNumberOf, var_names, value_names, step_word, words_of_value, words_of, word_table, first_seen, KindMeans, StepMeans, SaidMeans, UseMeans, ValueMeans, VarMeans, ChoiceMeans, NeedMeans, GoalMeans, HorizonMeans, Numbers}
-use Rattle.hs_base.specs.MissionRefusals.{is_among, next_names, begin_names, unknown_in, unknown_in_var, unknown_in_kind, kinds_of_need, kinds_of, unknown_names, lacks_begin, names_without_begin}
+use Rattle.hs_texts.specs.declared.ast.Ast.{Ast}
+use Rattle.hs_texts.specs.declared.ast.AstChoice.{AstChoice}
+use Rattle.hs_texts.specs.declared.ast.AstStep.TheVariants.{Do as AstDo, Until as AstUntil}
+use Rattle.hs_texts.specs.declared.ast.AstGoal.{AstGoal}
+use Rattle.hs_texts.specs.declared.ast.AstHorizon.{AstHorizon}
+use Rattle.hs_texts.specs.declared.ast.AstKind.{AstKind}
+use Rattle.hs_texts.specs.declared.ast.AstNeed.{AstNeed}
+use Rattle.hs_texts.specs.declared.ast.AstSaid.{AstSaid}
+use Rattle.hs_texts.specs.declared.ast.AstStep.{AstStep}
+use Rattle.hs_texts.specs.declared.ast.AstValue.{AstValue}
+use Rattle.hs_texts.specs.declared.ast.AstVar.{AstVar}
+use Rattle.hs_texts.specs.declared.ast.Use.{Use}
+use Rattle.hs_texts.specs.MissionMeaning.{IsNumberOf, var_names, value_names, step_word, words_of_value, words_of, word_table, first_seen, KindMeans, StepMeans, SaidMeans, UseMeans, ValueMeans, VarMeans, ChoiceMeans, NeedMeans, GoalMeans, HorizonMeans, Numbers}
+use Rattle.hs_texts.specs.MissionRefusals.{is_among, next_names, begin_names, unknown_in, unknown_in_var, unknown_in_kind, kinds_of_need, kinds_of, unknown_names, lacks_begin, names_without_begin}
 use Rattle.base_laws.proofs.ListLemmas.{each_split, each_both, each_weaker}
 use Rattle.domain_check.specs.Numbering.{number_in, var_named, value_id, number_in_var, kind_of, step_of, said_of, range_of, value_of, begin_of, var_of, choice_of, need_of, goal_of, horizon_of, mission_of}
 use Rattle.domain_check.proofs.EachLemmas.{each_unmapped, none_before, none_behind, none_left, none_mapped, each_none, none_each, map_zip}

@@ -10,9 +10,9 @@ use Rattle.std.specs.List.{list_any, position_or_len}
 use Rattle.std.specs.Str.{bytes_eq}
 use Rattle.std.specs.Cmp.Lexicographic.{bytes_decides}
 use Rattle.std.specs.Borrow.{Bor}
-use Rattle.hs_base.specs.declared.ast.AstVar.{AstVar}
-use Rattle.hs_base.specs.MissionMeaning.{IsNumberOf, var_names, value_names}
-use Rattle.hs_base.specs.MissionRefusals.{is_among}
+use Rattle.hs_texts.specs.declared.ast.AstVar.{AstVar}
+use Rattle.hs_texts.specs.MissionMeaning.{IsNumberOf, var_names, value_names}
+use Rattle.hs_texts.specs.MissionRefusals.{is_among}
 use Rattle.domain_check.specs.Numbering.{number_in, var_named}
 use Rattle.domain_check.specs.Tables.{IsNamed}
 

@@ -19,22 +19,22 @@ use Rattle.hs_base.specs.declared.ids.ValId.{ValId}
 use Rattle.hs_base.specs.declared.mission.Value.{Value}
 use Rattle.hs_base.specs.declared.mission.Var.{Var}
 use Rattle.hs_base.specs.declared.range.Range.{Range}
-use Rattle.hs_base.specs.declared.ast.Ast.{Ast}
-use Rattle.hs_base.specs.declared.ast.AstChoice.{AstChoice}
-use Rattle.hs_base.specs.declared.ast.AstGoal.{AstGoal}
-use Rattle.hs_base.specs.declared.ast.AstHorizon.{AstHorizon}
-use Rattle.hs_base.specs.declared.ast.AstKind.{AstKind}
-use Rattle.hs_base.specs.declared.ast.AstNeed.{AstNeed}
-use Rattle.hs_base.specs.declared.ast.AstSaid.{AstSaid}
-use Rattle.hs_base.specs.declared.ast.AstValue.{AstValue}
-use Rattle.hs_base.specs.declared.ast.AstVar.{AstVar}
-use Rattle.hs_base.specs.declared.ast.Use.{Use}
+use Rattle.hs_texts.specs.declared.ast.Ast.{Ast}
+use Rattle.hs_texts.specs.declared.ast.AstChoice.{AstChoice}
+use Rattle.hs_texts.specs.declared.ast.AstGoal.{AstGoal}
+use Rattle.hs_texts.specs.declared.ast.AstHorizon.{AstHorizon}
+use Rattle.hs_texts.specs.declared.ast.AstKind.{AstKind}
+use Rattle.hs_texts.specs.declared.ast.AstNeed.{AstNeed}
+use Rattle.hs_texts.specs.declared.ast.AstSaid.{AstSaid}
+use Rattle.hs_texts.specs.declared.ast.AstValue.{AstValue}
+use Rattle.hs_texts.specs.declared.ast.AstVar.{AstVar}
+use Rattle.hs_texts.specs.declared.ast.Use.{Use}
 use Rattle.hs_base.specs.Ranges.{IsRange}
 use Rattle.hs_base.specs.Walks.{join_after, EachAfter, IsInOrder, AreDifferent}
-use Rattle.hs_base.specs.CanonicalText.{is_whole}
+use Rattle.hs_texts.specs.CanonicalText.{is_whole}
 use Rattle.hs_base.specs.Missions.{HasRanges, IsValue, IsVar, IsChoice, IsNeed, IsGoal, IsHorizon}
-use Rattle.hs_base.specs.MissionMeaning.{KindMeans, UseMeans, ValueMeans, VarMeans, ChoiceMeans, NeedMeans, GoalMeans, HorizonMeans, Means, var_names, value_names}
-use Rattle.hs_base.specs.MissionRefusals.{places, again, names_again, value_again, var_again, next_names, begin_names, unknown_in_var, unknown_in_kind, kinds_of_need, kinds_of, is_exchanged, is_no_duration, ranges_of_relation, ranges_of_goal, durations, distances, from_one_to, all_values, limits_kept, lacks_begin, is_early, asks_itself, asks_twice}
+use Rattle.hs_texts.specs.MissionMeaning.{KindMeans, UseMeans, ValueMeans, VarMeans, ChoiceMeans, NeedMeans, GoalMeans, HorizonMeans, Means, var_names, value_names}
+use Rattle.hs_texts.specs.MissionRefusals.{places, again, names_again, value_again, var_again, next_names, begin_names, unknown_in_var, unknown_in_kind, kinds_of_need, kinds_of, is_exchanged, is_no_duration, ranges_of_relation, ranges_of_goal, durations, distances, from_one_to, all_values, limits_kept, lacks_begin, is_early, asks_itself, asks_twice}
 use Rattle.base_laws.proofs.ListLemmas.{each_both, each_weaker, EachAfter-both}
 use Rattle.domain_check.specs.Numbering.{number_in, value_id, kind_of}
 use Rattle.domain_check.proofs.EachLemmas.{none_joined, each_none, none_each, none_after, each_mapped, each_unmapped, after_mapped, after_unmapped, passes_each, fails_each, zip_map, zip_each}

@@ -3,9 +3,9 @@ use Rattle.std.proofs.Common.{◌≡◌, suc, ◌-◌, false, List, [], ◌∷�
 use Rattle.std.proofs.lemmas.Int.{ints}
 use Rattle.std.specs.Prelude.{◌≤ℤ◌, ◌<ℤ◌, ℤ, int_le, slice_get}
 use Rattle.std.specs.List.{AllByRecursion}
-use Rattle.hs_base.specs.declared.ast.AstHorizon.{AstHorizon}
+use Rattle.hs_texts.specs.declared.ast.AstHorizon.{AstHorizon}
 use Rattle.hs_base.specs.Walks.{EachAfter, IsInOrder}
-use Rattle.hs_base.specs.MissionRefusals.{is_early}
+use Rattle.hs_texts.specs.MissionRefusals.{is_early}
 use Rattle.base_laws.proofs.ListLemmas.{each_both, each_weaker}
 
 -- the last of those before it

@@ -1,13 +1,13 @@
 -- The first refusal of all, by the rules in their order.
 use Rattle.std.proofs.Common.{◌≡◌, ◌⊎◌, List, [], ◌∷◌, ◌++◌, map, refl, sym, ap, ◌∙◌, inl, inr}
-use Rattle.hs_base.specs.declared.ast.Ast.{Ast}
-use Rattle.hs_base.specs.declared.ast.AstNeed.{AstNeed}
+use Rattle.hs_texts.specs.declared.ast.Ast.{Ast}
+use Rattle.hs_texts.specs.declared.ast.AstNeed.{AstNeed}
 use Rattle.hs_base.specs.declared.mission.Mission.{Mission}
-use Rattle.hs_base.specs.declared.refusal.Refusal.{Refusal}
-use Rattle.hs_base.specs.declared.refusal.Refusal.TheVariants.{NotUtf8, Char, Expected, Number, Trailing, Twice, Unknown, Range as BadRange, Limit, NoBegin, Horizons, SameVar, SameBy, Memory as NoMemory}
-use Rattle.hs_base.specs.MissionMeaning.{Means}
-use Rattle.hs_base.specs.MissionRefusals.{twice_names, unknown_names, bad_ranges, passed_limits, names_without_begin, early_horizons, places, asks_itself, asks_twice, refusals}
-use Rattle.hs_base.specs.MissionSpelling.{IsMissionRefusal}
+use Rattle.hs_texts.specs.declared.refusal.Refusal.{Refusal}
+use Rattle.hs_texts.specs.declared.refusal.Refusal.TheVariants.{NotUtf8, Char, Expected, Number, Trailing, Twice, Unknown, Range as BadRange, Limit, NoBegin, Horizons, SameVar, SameBy, Memory as NoMemory}
+use Rattle.hs_texts.specs.MissionMeaning.{Means}
+use Rattle.hs_texts.specs.MissionRefusals.{twice_names, unknown_names, bad_ranges, passed_limits, names_without_begin, early_horizons, places, asks_itself, asks_twice, refusals}
+use Rattle.hs_texts.specs.MissionSpelling.{IsMissionRefusal}
 use Rattle.text_laws.specs.Refused.{OrMemory}
 use Rattle.domain_check.specs.Checking.{IsRefused}
 use Rattle.domain_check.specs.Rules.{KeepsRules, IsBroken}

@@ -4,16 +4,16 @@ use Rattle.std.proofs.lemmas.Bool.{cases_Bool}
 use Rattle.std.specs.Prelude.{slice_get}
 use Rattle.std.specs.List.{AllByRecursion}
 use Rattle.std.specs.Str.{bytes_eq}
-use Rattle.hs_base.specs.declared.ast.Ast.{Ast}
-use Rattle.hs_base.specs.declared.ast.AstStep.TheVariants.{Do as AstDo, Until as AstUntil}
-use Rattle.hs_base.specs.declared.ast.AstSaid.{AstSaid}
-use Rattle.hs_base.specs.declared.ast.AstStep.{AstStep}
-use Rattle.hs_base.specs.declared.ast.AstValue.{AstValue}
-use Rattle.hs_base.specs.declared.ast.AstVar.{AstVar}
+use Rattle.hs_texts.specs.declared.ast.Ast.{Ast}
+use Rattle.hs_texts.specs.declared.ast.AstStep.TheVariants.{Do as AstDo, Until as AstUntil}
+use Rattle.hs_texts.specs.declared.ast.AstSaid.{AstSaid}
+use Rattle.hs_texts.specs.declared.ast.AstStep.{AstStep}
+use Rattle.hs_texts.specs.declared.ast.AstValue.{AstValue}
+use Rattle.hs_texts.specs.declared.ast.AstVar.{AstVar}
 use Rattle.hs_base.specs.Names.{IsName}
 use Rattle.hs_base.specs.Walks.{AreDifferent}
-use Rattle.hs_base.specs.MissionMeaning.{step_word, words_of_value, words_of, word_table, first_seen}
-use Rattle.hs_base.specs.MissionRefusals.{is_among}
+use Rattle.hs_texts.specs.MissionMeaning.{step_word, words_of_value, words_of, word_table, first_seen}
+use Rattle.hs_texts.specs.MissionRefusals.{is_among}
 use Rattle.base_laws.proofs.ListLemmas.{each_both, each_weaker, EachAfter-more}
 use Rattle.text_laws.specs.Writable.{IsWritableStep, IsWritableSaid, AreWritableAnswers, IsWritableValue, IsWritableVar}
 use Rattle.domain_check.proofs.EachLemmas.{each_fails}

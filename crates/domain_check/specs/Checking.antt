@@ -1,7 +1,7 @@
 -- What the check of one rule answers.
 use Rattle.std.specs.Prelude.{◌≡◌, ◌⊎◌, List, [], ◌∷◌, Result, Ok, Err}
-use Rattle.hs_base.specs.declared.refusal.Refusal.{Refusal}
-use Rattle.hs_base.specs.declared.refusal.Refusal.TheVariants.{Memory as NoMemory}
+use Rattle.hs_texts.specs.declared.refusal.Refusal.{Refusal}
+use Rattle.hs_texts.specs.declared.refusal.Refusal.TheVariants.{Memory as NoMemory}
 
 -- the refusal tells of the first that breaks the rule
 pub record IsFirst {X : Type 0} (told : X → Refusal) (broken : List X) (r : Refusal) : Type 0 where

@@ -1,11 +1,11 @@
 -- The rules of written missions, all together.
 use Rattle.std.specs.Prelude.{◌≡◌, ◌⊎◌, []}
-use Rattle.hs_base.specs.declared.ast.Ast.{Ast}
-use Rattle.hs_base.specs.declared.ast.AstNeed.{AstNeed}
-use Rattle.hs_base.specs.declared.refusal.Refusal.{Refusal}
-use Rattle.hs_base.specs.declared.refusal.Refusal.TheVariants.{Memory as NoMemory}
-use Rattle.hs_base.specs.MissionRefusals.{twice_names, unknown_names, bad_ranges, passed_limits, names_without_begin, early_horizons, places, asks_itself, asks_twice}
-use Rattle.hs_base.specs.MissionSpelling.{IsMissionRefusal}
+use Rattle.hs_texts.specs.declared.ast.Ast.{Ast}
+use Rattle.hs_texts.specs.declared.ast.AstNeed.{AstNeed}
+use Rattle.hs_texts.specs.declared.refusal.Refusal.{Refusal}
+use Rattle.hs_texts.specs.declared.refusal.Refusal.TheVariants.{Memory as NoMemory}
+use Rattle.hs_texts.specs.MissionRefusals.{twice_names, unknown_names, bad_ranges, passed_limits, names_without_begin, early_horizons, places, asks_itself, asks_twice}
+use Rattle.hs_texts.specs.MissionSpelling.{IsMissionRefusal}
 
 -- no rule is broken
 pub record KeepsRules (a : Ast) : Type 0 where

@@ -1,15 +1,15 @@
 -- The names that tables hold.
 use Rattle.std.specs.Prelude.{◌≡◌, ℕ, Bool, List, length, map, nat_le, Some}
 use Rattle.std.specs.Borrow.{Bor}
-use Rattle.hs_base.specs.declared.ast.AstChoice.{AstChoice}
-use Rattle.hs_base.specs.declared.ast.AstGoal.{AstGoal}
-use Rattle.hs_base.specs.declared.ast.AstKind.{AstKind}
-use Rattle.hs_base.specs.declared.ast.AstSaid.{AstSaid}
+use Rattle.hs_texts.specs.declared.ast.AstChoice.{AstChoice}
+use Rattle.hs_texts.specs.declared.ast.AstGoal.{AstGoal}
+use Rattle.hs_texts.specs.declared.ast.AstKind.{AstKind}
+use Rattle.hs_texts.specs.declared.ast.AstSaid.{AstSaid}
 use Rattle.hs_base.specs.declared.limits.TheConstants.{ANSWERS}
-use Rattle.hs_base.specs.declared.ast.AstValue.{AstValue}
-use Rattle.hs_base.specs.declared.ast.AstVar.{AstVar}
-use Rattle.hs_base.specs.declared.ast.Use.{Use}
-use Rattle.hs_base.specs.MissionMeaning.{value_names}
+use Rattle.hs_texts.specs.declared.ast.AstValue.{AstValue}
+use Rattle.hs_texts.specs.declared.ast.AstVar.{AstVar}
+use Rattle.hs_texts.specs.declared.ast.Use.{Use}
+use Rattle.hs_texts.specs.MissionMeaning.{value_names}
 use Rattle.domain_check.specs.Numbering.{var_named}
 use Rattle.domain_check.specs.declared.names.Names.{Names}
 

@@ -1,8 +1,8 @@
 ghost use Rattle.std.specs.Prelude.{◌≡◌, [], MatchResult, IfOk, IfErr};
 ghost use Rattle.hs_base.specs.declared.mission.Mission.{Mission as Numbered};
-ghost use Rattle.hs_base.specs.MissionMeaning.{Means};
-ghost use Rattle.hs_base.specs.MissionRefusals.{refusals};
-ghost use Rattle.hs_base.specs.MissionSpelling.{IsMissionRefusal};
+ghost use Rattle.hs_texts.specs.MissionMeaning.{Means};
+ghost use Rattle.hs_texts.specs.MissionRefusals.{refusals};
+ghost use Rattle.hs_texts.specs.MissionSpelling.{IsMissionRefusal};
 ghost use Rattle.text_laws.specs.Refused.{OrMemory};
 ghost use Rattle.domain_check.specs.Rules.{KeepsRules, IsBroken};
 ghost use Rattle.text_laws.specs.Writable.{IsWritable};
@@ -15,7 +15,8 @@ use crate::needs::{check_choices, check_variables};
 use crate::ranges::check_ranges;
 use crate::tables::Tables;
 use crate::unknown::check_names;
-use hs_base::{Ast, Mission, Refusal};
+use hs_base::Mission;
+use hs_texts::{Ast, Refusal};
 use std::alloc::Global;
 
 /// The names of a mission that keeps all rules.

@@ -1,10 +1,11 @@
 ghost use Rattle.std.specs.Prelude.{filter};
-ghost use Rattle.hs_base.specs.declared.refusal.Refusal.TheVariants.{NoBegin};
-ghost use Rattle.hs_base.specs.MissionMeaning.{var_names};
-ghost use Rattle.hs_base.specs.MissionRefusals.{lacks_begin};
+ghost use Rattle.hs_texts.specs.declared.refusal.Refusal.TheVariants.{NoBegin};
+ghost use Rattle.hs_texts.specs.MissionMeaning.{var_names};
+ghost use Rattle.hs_texts.specs.MissionRefusals.{lacks_begin};
 ghost use Rattle.domain_check.specs.Checking.{Tells};
 
-use hs_base::{AstVar, Copies, Refusal};
+use hs_base::Copies;
+use hs_texts::{AstVar, Refusal};
 use std::alloc::Global;
 
 /// Refuses the first variable that has no value to begin with.

@@ -6,10 +6,8 @@ use crate::names::Names;
 use crate::tables::Tables;
 use crate::values::var_of;
 use crate::words::words_of;
-use hs_base::{
-    Ast, AstChoice, AstGoal, AstHorizon, AstNeed, Choice, Goal, Horizon, List, Memory, Mission,
-    Name, Need, Var,
-};
+use hs_base::{Choice, Goal, Horizon, List, Memory, Mission, Name, Need, Var};
+use hs_texts::{Ast, AstChoice, AstGoal, AstHorizon, AstNeed};
 use std::alloc::Global;
 
 fn vars_of(alloc: Global, words: &Names, tables: &Tables) -> Result<List<Var>, Memory>

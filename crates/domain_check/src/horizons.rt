@@ -1,10 +1,10 @@
 ghost use Rattle.std.specs.Prelude.{◌≡◌, ◌<◌, ◌^◌, [], ◌∷◌, cond, length};
-ghost use Rattle.hs_base.specs.declared.refusal.Refusal.TheVariants.{Horizons};
+ghost use Rattle.hs_texts.specs.declared.refusal.Refusal.TheVariants.{Horizons};
 ghost use Rattle.hs_base.specs.Walks.{join_after};
-ghost use Rattle.hs_base.specs.MissionRefusals.{is_early as is_early_spec};
+ghost use Rattle.hs_texts.specs.MissionRefusals.{is_early as is_early_spec};
 ghost use Rattle.domain_check.specs.Checking.{Tells};
 
-use hs_base::{AstHorizon, Refusal};
+use hs_texts::{AstHorizon, Refusal};
 
 /// Whether a horizon isn't later than the last of those before it.
 fn is_early(before: &[AstHorizon], horizon: &AstHorizon) -> bool

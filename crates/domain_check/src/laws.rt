@@ -1,9 +1,9 @@
 // The laws of acceptance.
 ghost use Rattle.std.specs.Prelude.{◌≡◌, []};
-ghost use Rattle.hs_base.specs.declared.ast.Ast.{Ast};
+ghost use Rattle.hs_texts.specs.declared.ast.Ast.{Ast};
 ghost use Rattle.hs_base.specs.declared.mission.Mission.{Mission};
-ghost use Rattle.hs_base.specs.MissionMeaning.{Means};
-ghost use Rattle.hs_base.specs.MissionRefusals.{refusals};
+ghost use Rattle.hs_texts.specs.MissionMeaning.{Means};
+ghost use Rattle.hs_texts.specs.MissionRefusals.{refusals};
 ghost use Rattle.text_laws.specs.Writable.{IsWritable};
 
 /// A written mission has no refusal exactly where some mission is meant.

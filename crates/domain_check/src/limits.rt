@@ -1,18 +1,16 @@
 ghost use Rattle.std.specs.Prelude.{◌≡◌, ℕ, Bool, Some, None, cond, filter_map, length, nat_le, pos, int_le, ◌&&◌};
 ghost use Rattle.std.specs.List.{list_all};
-ghost use Rattle.hs_base.specs.declared.ast.AstHorizon.{AstHorizon as WrittenHorizon};
-ghost use Rattle.hs_base.specs.declared.ast.AstNeed.{AstNeed as WrittenNeed};
-ghost use Rattle.hs_base.specs.declared.ast.AstValue.{AstValue as WrittenValue};
-ghost use Rattle.hs_base.specs.declared.ast.AstVar.{AstVar as WrittenVar};
-ghost use Rattle.hs_base.specs.declared.refusal.Refusal.TheVariants.{Limit};
-ghost use Rattle.hs_base.specs.MissionRefusals.{from_one_to as from_one_to_spec, limits_kept as limits_kept_spec, passed_limits};
+ghost use Rattle.hs_texts.specs.declared.ast.AstHorizon.{AstHorizon as WrittenHorizon};
+ghost use Rattle.hs_texts.specs.declared.ast.AstNeed.{AstNeed as WrittenNeed};
+ghost use Rattle.hs_texts.specs.declared.ast.AstValue.{AstValue as WrittenValue};
+ghost use Rattle.hs_texts.specs.declared.ast.AstVar.{AstVar as WrittenVar};
+ghost use Rattle.hs_texts.specs.declared.refusal.Refusal.TheVariants.{Limit};
+ghost use Rattle.hs_texts.specs.MissionRefusals.{from_one_to as from_one_to_spec, limits_kept as limits_kept_spec, passed_limits};
 ghost use Rattle.domain_check.specs.Checking.{Tells};
 ghost use Rattle.domain_check.specs.Tables.{is_short};
 
-use hs_base::{
-    ANSWER_CLAUSES, ANSWERS, Ast, AstHorizon, AstNeed, AstValue, AstVar, CHOICES, GOALS, HORIZONS,
-    LAST_HORIZON, NEEDS, Refusal, SCRIPT_STEPS, VALUES, VARIABLES,
-};
+use hs_base::{ANSWER_CLAUSES, ANSWERS, CHOICES, GOALS, HORIZONS, LAST_HORIZON, NEEDS, SCRIPT_STEPS, VALUES, VARIABLES};
+use hs_texts::{Ast, AstHorizon, AstNeed, AstValue, AstVar, Refusal};
 
 /// Whether there is one, and not more than the most.
 fn from_one_to(most: usize, count: usize) -> bool

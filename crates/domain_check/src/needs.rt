@@ -1,12 +1,12 @@
 ghost use Rattle.std.specs.Prelude.{◌≡◌, ◌<◌, ◌^◌, length};
 ghost use Rattle.std.specs.List.{list_any};
-ghost use Rattle.hs_base.specs.declared.ast.AstChoice.{AstChoice as WrittenChoice};
-ghost use Rattle.hs_base.specs.declared.ast.AstNeed.{AstNeed as WrittenNeed};
-ghost use Rattle.hs_base.specs.declared.refusal.Refusal.TheVariants.{SameVar, SameBy};
-ghost use Rattle.hs_base.specs.MissionRefusals.{places, asks_itself as asks_itself_spec, same_written_kind, asks_twice as asks_twice_spec};
+ghost use Rattle.hs_texts.specs.declared.ast.AstChoice.{AstChoice as WrittenChoice};
+ghost use Rattle.hs_texts.specs.declared.ast.AstNeed.{AstNeed as WrittenNeed};
+ghost use Rattle.hs_texts.specs.declared.refusal.Refusal.TheVariants.{SameVar, SameBy};
+ghost use Rattle.hs_texts.specs.MissionRefusals.{places, asks_itself as asks_itself_spec, same_written_kind, asks_twice as asks_twice_spec};
 ghost use Rattle.domain_check.specs.Checking.{Tells};
 
-use hs_base::{AstChoice, AstKind, AstNeed, Refusal};
+use hs_texts::{AstChoice, AstKind, AstNeed, Refusal};
 
 /// Whether a choice asks for a token of the need's own variable.
 fn asks_itself(need: &AstNeed) -> bool

@@ -1,18 +1,16 @@
 ghost use Rattle.std.specs.Prelude.{◌≡◌, ◌<◌, ◌^◌, [], ◌∷◌, ◌++◌, cond, length, map, flat_map, IfOk, OnOk};
-ghost use Rattle.hs_base.specs.declared.ast.AstChoice.{AstChoice as WrittenChoice};
-ghost use Rattle.hs_base.specs.declared.ast.AstNeed.{AstNeed as WrittenNeed};
-ghost use Rattle.hs_base.specs.declared.ast.AstHorizon.{AstHorizon as WrittenHorizon};
-ghost use Rattle.hs_base.specs.declared.ast.AstValue.{AstValue as WrittenValue};
-ghost use Rattle.hs_base.specs.declared.ast.AstVar.{AstVar as WrittenVar};
-ghost use Rattle.hs_base.specs.declared.refusal.Refusal.TheVariants.{Range as BadRange};
-ghost use Rattle.hs_base.specs.CanonicalText.{is_whole as is_whole_spec};
-ghost use Rattle.hs_base.specs.MissionRefusals.{places, is_exchanged as is_exchanged_spec, is_no_duration as is_no_duration_spec, ranges_of_relation, ranges_of_goal, durations, distances, bad_ranges};
+ghost use Rattle.hs_texts.specs.declared.ast.AstChoice.{AstChoice as WrittenChoice};
+ghost use Rattle.hs_texts.specs.declared.ast.AstNeed.{AstNeed as WrittenNeed};
+ghost use Rattle.hs_texts.specs.declared.ast.AstHorizon.{AstHorizon as WrittenHorizon};
+ghost use Rattle.hs_texts.specs.declared.ast.AstValue.{AstValue as WrittenValue};
+ghost use Rattle.hs_texts.specs.declared.ast.AstVar.{AstVar as WrittenVar};
+ghost use Rattle.hs_texts.specs.declared.refusal.Refusal.TheVariants.{Range as BadRange};
+ghost use Rattle.hs_texts.specs.CanonicalText.{is_whole as is_whole_spec};
+ghost use Rattle.hs_texts.specs.MissionRefusals.{places, is_exchanged as is_exchanged_spec, is_no_duration as is_no_duration_spec, ranges_of_relation, ranges_of_goal, durations, distances, bad_ranges};
 ghost use Rattle.domain_check.specs.Checking.{Tells};
 
-use hs_base::{
-    Ast, AstChoice, AstGoal, AstHorizon, AstNeed, AstValue, AstVar, LAST, List, Memory, Range,
-    Refusal, Relation,
-};
+use hs_base::{LAST, List, Memory, Range, Relation};
+use hs_texts::{Ast, AstChoice, AstGoal, AstHorizon, AstNeed, AstValue, AstVar, Refusal};
 use std::alloc::Global;
 
 /// Whether no tick is in the range.

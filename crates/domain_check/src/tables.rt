@@ -1,16 +1,17 @@
 ghost use Rattle.std.specs.Prelude.{◌≡◌, [], map, ◌<◌, length, slice_index_or, None, MatchOption, MatchResult};
-ghost use Rattle.hs_base.specs.declared.refusal.Refusal.TheVariants.{Twice};
-ghost use Rattle.hs_base.specs.declared.ast.AstVar.{AstVar as WrittenVar};
+ghost use Rattle.hs_texts.specs.declared.refusal.Refusal.TheVariants.{Twice};
+ghost use Rattle.hs_texts.specs.declared.ast.AstVar.{AstVar as WrittenVar};
 ghost use Rattle.hs_base.specs.Walks.{join_after};
-ghost use Rattle.hs_base.specs.MissionMeaning.{var_names, value_names as value_names_spec};
-ghost use Rattle.hs_base.specs.MissionRefusals.{var_again};
+ghost use Rattle.hs_texts.specs.MissionMeaning.{var_names, value_names as value_names_spec};
+ghost use Rattle.hs_texts.specs.MissionRefusals.{var_again};
 ghost use Rattle.domain_check.specs.Checking.{IsRefused};
 ghost use Rattle.domain_check.specs.Numbering.{kind_of as kind_of_spec, var_named};
 ghost use Rattle.domain_check.specs.Tables.{names_in, IsNamed};
 
 use crate::names::Names;
 use crate::twice::{add_new, value_names};
-use hs_base::{AstKind, AstVar, Kind, List, Name, Refusal, SvId, ValId};
+use hs_base::{Kind, List, Name, SvId, ValId};
+use hs_texts::{AstKind, AstVar, Refusal};
 use std::alloc::Global;
 
 /// The names of the variables of a written mission, and for each those of its values.

@@ -1,8 +1,6 @@
 use crate::accept;
-use hs_base::{
-    Ast, AstChoice, AstGoal, AstHorizon, AstKind, AstNeed, AstSaid, AstStep, AstValue, AstVar,
-    Kind, LAST, List, Memory, Name, Range, Refusal, Relation, SvId, Use, ValId,
-};
+use hs_base::{Kind, LAST, List, Memory, Name, Range, Relation, SvId, ValId};
+use hs_texts::{Ast, AstChoice, AstGoal, AstHorizon, AstKind, AstNeed, AstSaid, AstStep, AstValue, AstVar, Refusal, Use};
 use std::alloc::Global;
 use std::test::Fail;
 

@@ -1,12 +1,13 @@
 ghost use Rattle.std.specs.Prelude.{◌≡◌, [], ◌∷◌, ◌++◌, MatchResult};
-ghost use Rattle.hs_base.specs.declared.refusal.Refusal.TheVariants.{Twice};
+ghost use Rattle.hs_texts.specs.declared.refusal.Refusal.TheVariants.{Twice};
 ghost use Rattle.hs_base.specs.Walks.{join_after};
-ghost use Rattle.hs_base.specs.MissionRefusals.{again, names_again, value_again};
+ghost use Rattle.hs_texts.specs.MissionRefusals.{again, names_again, value_again};
 ghost use Rattle.domain_check.specs.Checking.{Tells, IsRefused};
 ghost use Rattle.domain_check.specs.Tables.{names_in, names_of_uses, names_of_values};
 
 use crate::names::Names;
-use hs_base::{AstValue, Copies, Name, Refusal, Use};
+use hs_base::{Copies, Name};
+use hs_texts::{AstValue, Refusal, Use};
 use std::alloc::Global;
 
 /// Adds a name that may not stand there yet.

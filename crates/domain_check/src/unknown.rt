@@ -1,17 +1,15 @@
 ghost use Rattle.std.specs.Prelude.{◌≡◌, ◌<◌, flat_map};
-ghost use Rattle.hs_base.specs.declared.ast.AstHorizon.{AstHorizon as WrittenHorizon};
-ghost use Rattle.hs_base.specs.declared.refusal.Refusal.TheVariants.{Unknown};
-ghost use Rattle.hs_base.specs.MissionMeaning.{value_names};
-ghost use Rattle.hs_base.specs.MissionRefusals.{next_names, begin_names as begin_names_spec, unknown_in, unknown_in_var, unknown_in_kind, kinds_of_need, kinds_of, unknown_names};
+ghost use Rattle.hs_texts.specs.declared.ast.AstHorizon.{AstHorizon as WrittenHorizon};
+ghost use Rattle.hs_texts.specs.declared.refusal.Refusal.TheVariants.{Unknown};
+ghost use Rattle.hs_texts.specs.MissionMeaning.{value_names};
+ghost use Rattle.hs_texts.specs.MissionRefusals.{next_names, begin_names as begin_names_spec, unknown_in, unknown_in_var, unknown_in_kind, kinds_of_need, kinds_of, unknown_names};
 ghost use Rattle.domain_check.specs.Checking.{Tells};
 ghost use Rattle.domain_check.specs.Tables.{names_in, names_of_uses, kinds_of_choices, kinds_of_goals};
 
 use crate::names::Names;
 use crate::tables::Tables;
-use hs_base::{
-    Ast, AstChoice, AstGoal, AstHorizon, AstKind, AstNeed, AstValue, AstVar, Copies, Name, Refusal,
-    Use,
-};
+use hs_base::{Copies, Name};
+use hs_texts::{Ast, AstChoice, AstGoal, AstHorizon, AstKind, AstNeed, AstValue, AstVar, Refusal, Use};
 use std::alloc::Global;
 
 fn check_name(alloc: Global, known: &Names, name: &Name) -> Result<(), Refusal>

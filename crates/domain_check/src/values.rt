@@ -1,13 +1,11 @@
 ghost use Rattle.std.specs.Prelude.{◌≡◌, map, IfOk};
 ghost use Rattle.domain_check.specs.Numbering.{word_id as word_id_spec, value_id as value_id_spec, step_of as step_of_spec, said_of as said_of_spec, range_of as range_of_spec, value_of as value_of_spec, begin_of as begin_of_spec, var_of as var_of_spec};
-ghost use Rattle.hs_base.specs.MissionMeaning.{value_names};
+ghost use Rattle.hs_texts.specs.MissionMeaning.{value_names};
 ghost use Rattle.domain_check.specs.Tables.{names_in};
 
 use crate::names::Names;
-use hs_base::{
-    AstSaid, AstStep, AstValue, AstVar, Copies, LAST, List, Memory, Name, Range, Said, Step, Use,
-    ValId, Value, Var, WordId,
-};
+use hs_base::{Copies, LAST, List, Memory, Name, Range, Said, Step, ValId, Value, Var, WordId};
+use hs_texts::{AstSaid, AstStep, AstValue, AstVar, Use};
 use std::alloc::Global;
 
 fn word_id(words: &Names, name: &Name) -> WordId

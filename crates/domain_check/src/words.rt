@@ -1,10 +1,11 @@
 ghost use Rattle.std.specs.Prelude.{◌≡◌, codes, flat_map, map, IfOk, OnOk};
-ghost use Rattle.hs_base.specs.declared.ast.AstVar.{AstVar as WrittenVar};
-ghost use Rattle.hs_base.specs.MissionMeaning.{first_seen, step_word, words_of_value, word_table};
+ghost use Rattle.hs_texts.specs.declared.ast.AstVar.{AstVar as WrittenVar};
+ghost use Rattle.hs_texts.specs.MissionMeaning.{first_seen, step_word, words_of_value, word_table};
 ghost use Rattle.domain_check.specs.Tables.{names_in, words_said};
 
 use crate::names::Names;
-use hs_base::{Ast, AstSaid, AstStep, AstValue, AstVar, List, Memory, Name};
+use hs_base::{List, Memory, Name};
+use hs_texts::{Ast, AstSaid, AstStep, AstValue, AstVar};
 use std::alloc::Global;
 
 /// The word of a step.

@@ -5,11 +5,7 @@ ghost use Rattle.base_laws.specs.Samples.{camera, plain_value, device_value, val
 
 use super::*;
 use base_laws::the_camera_mission_is_one;
-use hs_base::{
-    Bound, Choice, Extension, Fault, Goal, Group, Horizon, Kind, LAST, List, Member, Memory,
-    Mission, Name, Need, Net, PointId, Range, Relation, Said, Step, Support, SvId, TokenRef, ValId,
-    Value, Var, WordId,
-};
+use hs_base::{Bound, Choice, Extension, Fault, Goal, Group, Horizon, Kind, LAST, List, Member, Memory, Mission, Name, Need, Net, PointId, Range, Relation, Said, Step, Support, SvId, TokenRef, ValId, Value, Var, WordId};
 use plan_check::{CheckedPlan, check};
 use rigid_contract::contract;
 use std::alloc::Global;

@@ -9,19 +9,19 @@ use Rattle.hs_base.specs.declared.mission.Horizon.{Horizon}
 use Rattle.hs_base.specs.declared.mission.Mission.{Mission}
 use Rattle.hs_base.specs.declared.plan.Extension.{Extension}
 use Rattle.hs_base.specs.declared.net.Net.{Net}
-use Rattle.hs_base.specs.declared.history.Entry.{Entry}
-use Rattle.hs_base.specs.declared.history.Deed.TheVariants.{Handover}
-use Rattle.hs_base.specs.declared.history.Phase.{Phase}
-use Rattle.hs_base.specs.declared.history.Phase.TheVariants.{Failed}
+use Rattle.hs_machine.specs.declared.history.Entry.{Entry}
+use Rattle.hs_machine.specs.declared.history.Deed.TheVariants.{Handover}
+use Rattle.hs_machine.specs.declared.history.Phase.{Phase}
+use Rattle.hs_machine.specs.declared.history.Phase.TheVariants.{Failed}
 use Rattle.hs_base.specs.Points.{count, hor, is_observed as ends_by_device}
 use Rattle.hs_base.specs.Bounds.{bounds_of}
 use Rattle.hs_base.specs.Reduced.{IsReducedOf}
 use Rattle.hs_base.specs.Checked.{Checked}
 use Rattle.hs_base.specs.Fits.{Times, Fits, time_at}
-use Rattle.hs_base.specs.State.{now_of, plan_of, executed, tick_at}
-use Rattle.hs_base.specs.Machine.{handover, done, Replies, IsLeftBy, Turn, base_of, is_over}
-use Rattle.hs_base.specs.Run.{MayAdd}
-use Rattle.plan_laws.proofs.StateLemmas.{plan_handed, times_kept, now_of-push}
+use Rattle.hs_machine.specs.State.{now_of, plan_of, executed, tick_at}
+use Rattle.hs_machine.specs.Machine.{handover, done, Replies, IsLeftBy, Turn, base_of, is_over}
+use Rattle.hs_machine.specs.Run.{MayAdd}
+use Rattle.run_laws.proofs.StateLemmas.{plan_handed, times_kept, now_of-push}
 use Rattle.dispatcher.specs.State.{State}
 use Rattle.plan_check.specs.Planned.{Planned}
 use Rattle.exec_laws.specs.Follows.{Follows}

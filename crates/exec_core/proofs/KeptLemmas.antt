@@ -7,16 +7,16 @@ use Rattle.std.specs.List.{count_by}
 use Rattle.hs_base.specs.declared.ids.PointId.{PointId}
 use Rattle.hs_base.specs.declared.mission.Mission.{Mission}
 use Rattle.hs_base.specs.declared.plan.Extension.{Extension}
-use Rattle.hs_base.specs.declared.history.Entry.{Entry}
-use Rattle.hs_base.specs.declared.history.Deed.TheVariants.{Tick}
-use Rattle.hs_base.specs.declared.history.Phase.{Phase}
-use Rattle.hs_base.specs.declared.history.Phase.TheVariants.{Waiting, Running, Failed, Ended}
+use Rattle.hs_machine.specs.declared.history.Entry.{Entry}
+use Rattle.hs_machine.specs.declared.history.Deed.TheVariants.{Tick}
+use Rattle.hs_machine.specs.declared.history.Phase.{Phase}
+use Rattle.hs_machine.specs.declared.history.Phase.TheVariants.{Waiting, Running, Failed, Ended}
 use Rattle.hs_base.specs.Points.{hor}
 use Rattle.hs_base.specs.Fits.{time_at}
-use Rattle.hs_base.specs.State.{now_of, plan_of, executed, executes, hands_over, is_failure, has_failed, has_ended, phase_of}
-use Rattle.hs_base.specs.Machine.{tick, is_over}
-use Rattle.hs_base.specs.Run.{Run, MayAdd}
-use Rattle.plan_laws.proofs.StateLemmas.{plan_kept, times_kept, now_of-push}
+use Rattle.hs_machine.specs.State.{now_of, plan_of, executed, executes, hands_over, is_failure, has_failed, has_ended, phase_of}
+use Rattle.hs_machine.specs.Machine.{tick, is_over}
+use Rattle.hs_machine.specs.Run.{Run, MayAdd}
+use Rattle.run_laws.proofs.StateLemmas.{plan_kept, times_kept, now_of-push}
 use Rattle.dispatcher.specs.State.{State, time_in, fired, ticked}
 use Rattle.exec_laws.specs.Follows.{Follows}
 use Rattle.exec_laws.proofs.StepLemmas.{running, run_more, phase_failed, phase_waiting, phase_flying, failed_more, follows_idle, follows_tick, follows_point}

@@ -4,15 +4,15 @@ use Rattle.std.specs.Prelude.{ℤ, not, vec_capacity, MatchOption}
 use Rattle.hs_base.specs.declared.mission.Mission.{Mission}
 use Rattle.hs_base.specs.declared.net.Bound.{Bound}
 use Rattle.hs_base.specs.declared.ids.PointId.{PointId}
-use Rattle.hs_base.specs.declared.history.Deed.{Deed}
-use Rattle.hs_base.specs.declared.history.Deed.TheVariants.{Tick}
-use Rattle.hs_base.specs.declared.history.Entry.{Entry}
-use Rattle.hs_base.specs.declared.history.Phase.TheVariants.{Running}
-use Rattle.hs_base.specs.State.{executed, watched, executes, is_failure, phase_of}
-use Rattle.hs_base.specs.Machine.{Event, Reply, Replies, EventReply, ReportReply, RefusedIf, IsLeftBy, Turn, tick, fire, report, done, failed, over, no_net, no_point, not_observed, already, is_over}
-use Rattle.hs_base.specs.Run.{MayAdd}
+use Rattle.hs_machine.specs.declared.history.Deed.{Deed}
+use Rattle.hs_machine.specs.declared.history.Deed.TheVariants.{Tick}
+use Rattle.hs_machine.specs.declared.history.Entry.{Entry}
+use Rattle.hs_machine.specs.declared.history.Phase.TheVariants.{Running}
+use Rattle.hs_machine.specs.State.{executed, watched, executes, is_failure, phase_of}
+use Rattle.hs_machine.specs.Machine.{Event, Reply, Replies, EventReply, ReportReply, RefusedIf, IsLeftBy, Turn, tick, fire, report, done, failed, over, no_net, no_point, not_observed, already, is_over}
+use Rattle.hs_machine.specs.Run.{MayAdd}
 use Rattle.dispatcher.specs.State.{IsOpen, MayFire, MayGoOn, time_in}
-use Rattle.plan_laws.proofs.RunLemmas.{event_reply, otherwise}
+use Rattle.run_laws.proofs.RunLemmas.{event_reply, otherwise}
 use Rattle.exec_laws.specs.Decisions.{DecidesTick, DecidesFire, DecidesReport}
 use Rattle.exec_laws.proofs.FollowLemmas.{tick_reply, fire_reply, report_reply, may_go_on_back, may_fire_back}
 use Rattle.exec_laws.proofs.StepLemmas.{running, replies_running, may_add, turn_added}

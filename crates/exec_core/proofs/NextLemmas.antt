@@ -2,7 +2,7 @@
 use Rattle.std.proofs.Common.{◌≡◌, ◌≢◌, ℕ, zero, suc, ◌+◌, ◌-◌, ◌<◌, ◌≤◌, List, [], ◌∷◌, ◌++◌, length, take, get_or, refl, ap, ◌∙◌, arith, length-append}
 use Rattle.std.proofs.Math.Seq.{take-append_seam}
 use Rattle.hs_base.specs.declared.plan.Extension.{Extension}
-use Rattle.hs_base.specs.Machine.{AgreeOn, base_of}
+use Rattle.hs_machine.specs.Machine.{AgreeOn, base_of}
 
 -- up to the first that differ
 pub agree_at : (xs ys : List Extension) (i : ℕ) (d : Extension) → take i xs ≡ take i ys → i < length xs → i < length ys → get_or xs i d ≢ get_or ys i d → AgreeOn xs ys i

@@ -8,8 +8,8 @@ use Rattle.std.specs.Option.{is_none}
 use Rattle.std.specs.List.{count_by}
 use Rattle.hs_base.specs.declared.mission.Mission.{Mission}
 use Rattle.hs_base.specs.declared.plan.Extension.{Extension}
-use Rattle.hs_base.specs.declared.history.Entry.{Entry}
-use Rattle.hs_base.specs.State.{plan_of}
+use Rattle.hs_machine.specs.declared.history.Entry.{Entry}
+use Rattle.hs_machine.specs.State.{plan_of}
 use Rattle.dispatcher.specs.State.{State}
 use Rattle.exec_core.specs.Room.{HasRoom}
 

@@ -1,6 +1,6 @@
 -- The executive's events as those of the machine.
-use Rattle.hs_base.specs.Machine.{tick, fire, report, broken, handover}
-use Rattle.hs_base.specs.Machine as machine
+use Rattle.hs_machine.specs.Machine.{tick, fire, report, broken, handover}
+use Rattle.hs_machine.specs.Machine as machine
 use Rattle.exec_core.specs.declared.event.Event.{Event}
 use Rattle.exec_core.specs.declared.event.Event.TheVariants.{Tick, Fire, Report, Broken, Handover}
 

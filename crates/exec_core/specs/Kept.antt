@@ -1,10 +1,10 @@
 -- What an executive keeps.
 use Rattle.std.specs.Prelude.{◌≡◌, ◌≢◌, ℕ, ◌<◌, false, List, [], length, vec_capacity, Option, Some, None}
 use Rattle.hs_base.specs.declared.mission.Mission.{Mission}
-use Rattle.hs_base.specs.declared.history.Entry.{Entry}
+use Rattle.hs_machine.specs.declared.history.Entry.{Entry}
 use Rattle.hs_base.specs.Points.{hor}
-use Rattle.hs_base.specs.State.{now_of, plan_of, executed, has_failed}
-use Rattle.hs_base.specs.Run.{Run}
+use Rattle.hs_machine.specs.State.{now_of, plan_of, executed, has_failed}
+use Rattle.hs_machine.specs.Run.{Run}
 use Rattle.exec_laws.specs.Follows.{Follows}
 use Rattle.exec_core.specs.Room.{HasRoom}
 use Rattle.exec_core.specs.declared.flight.Flight.{Flight}

@@ -1,8 +1,8 @@
 -- Whether an offered plan is the next one.
 use Rattle.std.specs.Prelude.{◌≡◌, ◌≢◌, ℕ, true, false, List, [], length}
 use Rattle.hs_base.specs.declared.plan.Extension.{Extension}
-use Rattle.hs_base.specs.Machine.{Event, handover, Replies, AgreeOn, needs_net, base_of, is_over, leaves_deed}
-use Rattle.hs_base.specs.State.{plan_of, phase_of}
+use Rattle.hs_machine.specs.Machine.{Event, handover, Replies, AgreeOn, needs_net, base_of, is_over, leaves_deed}
+use Rattle.hs_machine.specs.State.{plan_of, phase_of}
 use Rattle.plan_check.specs.Planned.{Planned}
 use Rattle.exec_core.specs.Recorded.{Recorded}
 use Rattle.exec_core.specs.Replies.{reply_of}

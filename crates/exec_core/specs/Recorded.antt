@@ -1,9 +1,9 @@
 -- What contracts see of an executive.
 use Rattle.std.specs.Prelude.{ℕ, List, [], ◌∷◌, ◌++◌}
 use Rattle.hs_base.specs.declared.mission.Mission.{Mission}
-use Rattle.hs_base.specs.declared.history.Entry.{Entry}
-use Rattle.hs_base.specs.declared.history.Deed.{Deed}
-use Rattle.hs_base.specs.Machine.{Event, Reply, Replies, IsLeftBy}
+use Rattle.hs_machine.specs.declared.history.Entry.{Entry}
+use Rattle.hs_machine.specs.declared.history.Deed.{Deed}
+use Rattle.hs_machine.specs.Machine.{Event, Reply, Replies, IsLeftBy}
 
 -- a mission, and the entries so far
 pub record Recorded : Type 0 where

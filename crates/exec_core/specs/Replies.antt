@@ -1,6 +1,6 @@
 -- The executive's replies as those of the machine.
-use Rattle.hs_base.specs.Machine.{done, due, not_yet, waits, observed, not_observed, already, no_point, failed, stale, not_next, over, no_net, other_mission, memory}
-use Rattle.hs_base.specs.Machine as machine
+use Rattle.hs_machine.specs.Machine.{done, due, not_yet, waits, observed, not_observed, already, no_point, failed, stale, not_next, over, no_net, other_mission, memory}
+use Rattle.hs_machine.specs.Machine as machine
 use Rattle.exec_core.specs.declared.reply.Reply.{Reply}
 use Rattle.exec_core.specs.declared.reply.Reply.TheVariants.{Done, Due, NotYet, Waits, Observed, NotObserved, Already, NoPoint, Failed, Stale, NotNext, Over, NoNet, OtherMission, Memory}
 

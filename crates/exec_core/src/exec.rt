@@ -1,7 +1,7 @@
 ghost use Rattle.std.specs.Prelude.{◌≡◌, ◌<◌, ◌^◌, true, [], pos, length, Some, IfOk, OnOk, OnErr, MatchOption};
 ghost use Rattle.hs_base.specs.Missions.{IsMission};
-ghost use Rattle.hs_base.specs.State.{now_of, plan_of, phase_of, is_failure, executes};
-ghost use Rattle.hs_base.specs.Machine.{Replies, Turn, tick, fire, report, broken, handover, done};
+ghost use Rattle.hs_machine.specs.State.{now_of, plan_of, phase_of, is_failure, executes};
+ghost use Rattle.hs_machine.specs.Machine.{Replies, Turn, tick, fire, report, broken, handover, done};
 ghost use Rattle.exec_core.specs.Recorded.{MayRecord, recording};
 ghost use Rattle.exec_core.specs.Replies.{reply_of};
 ghost use Rattle.exec_core.specs.Next.{IsTurnedAway, MayTake, IsTurnedDown};
@@ -11,7 +11,8 @@ use crate::decide::{decide_fire, decide_report, decide_tick};
 use crate::flight::{Flight, entries_of};
 use crate::next::not_next;
 use horizon_handover::{Handed, Offer};
-use hs_base::{Deed, Entry, Extension, Memory, Mission, Phase, PointId, Same, SvId};
+use hs_base::{Extension, Memory, Mission, PointId, Same, SvId};
+use hs_machine::{Deed, Entry, Phase};
 use std::alloc::Global;
 use std::marker::Model;
 

@@ -1,12 +1,12 @@
 use crate::{Event, Exec, Reply};
-use hs_base::Core;
+use hs_machine::Core;
 
 impl Core for Exec {
     type Event = Event;
 
     type Reply = Reply;
 
-    ghost use Rattle.hs_base.specs.Machine.{Turn};
+    ghost use Rattle.hs_machine.specs.Machine.{Turn};
     ghost use Rattle.exec_core.specs.Replies.{reply_of};
     ghost use Rattle.exec_core.specs.Events.{event_of};
 

@@ -1,5 +1,5 @@
 ghost use Rattle.std.specs.Prelude.{◌<◌, ◌^◌, MatchOption, length};
-ghost use Rattle.hs_base.specs.Machine.{AgreeOn};
+ghost use Rattle.hs_machine.specs.Machine.{AgreeOn};
 ghost use Rattle.exec_core.specs.Next.{IsNextOf, IsNotNext};
 
 use crate::Reply;

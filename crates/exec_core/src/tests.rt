@@ -5,10 +5,8 @@ ghost use Rattle.base_laws.specs.Samples.{smallest, plain_value};
 use super::*;
 use base_laws::the_smallest_mission_is_one;
 use edge_filter::reform;
-use hs_base::{
-    Bound, Core, Deed, Entry, Extension, Fault, Horizon, Kind, LAST, List, Memory, Mission, Name,
-    Phase, PointId, Range, SvId, ValId, Value, Var,
-};
+use hs_base::{Bound, Extension, Fault, Horizon, Kind, LAST, List, Memory, Mission, Name, PointId, Range, SvId, ValId, Value, Var};
+use hs_machine::{Core, Deed, Entry, Phase};
 use plan_check::{CheckedPlan, check};
 use std::alloc::Global;
 use std::test::Fail;

@@ -9,20 +9,20 @@ use Rattle.hs_base.specs.declared.mission.Horizon.{Horizon}
 use Rattle.hs_base.specs.declared.mission.Mission.{Mission}
 use Rattle.hs_base.specs.declared.plan.TokenRef.{TokenRef}
 use Rattle.hs_base.specs.declared.plan.Extension.{Extension}
-use Rattle.hs_base.specs.declared.history.Entry.{Entry}
+use Rattle.hs_machine.specs.declared.history.Entry.{Entry}
 use Rattle.hs_base.specs.Missions.{IsMission}
 use Rattle.hs_base.specs.Schedule.{Schedule}
 use Rattle.hs_base.specs.Points.{Point, origin, horizon, ending, place_of, points_of, new_points, refs_after, tokens_of, timeline_of, count, hor, start_at}
 use Rattle.hs_base.specs.Bounds.{IsScheduleOf}
-use Rattle.hs_base.specs.declared.history.Phase.TheVariants.{Waiting, Running, Failed, Ended}
+use Rattle.hs_machine.specs.declared.history.Phase.TheVariants.{Waiting, Running, Failed, Ended}
 use Rattle.hs_base.specs.Walks.{EachAfter}
 use Rattle.hs_base.specs.Checked.{KeepsRules, Checked}
-use Rattle.hs_base.specs.State.{plan_of, count_at, executed, tick_at, has_failed, has_ended, phase_of}
-use Rattle.hs_base.specs.Run.{Run}
+use Rattle.hs_machine.specs.State.{plan_of, count_at, executed, tick_at, has_failed, has_ended, phase_of}
+use Rattle.hs_machine.specs.Run.{Run}
 use Rattle.base_laws.proofs.ListLemmas.{front_induction, in_order, EachAfter-push}
 use Rattle.base_laws.proofs.PointLemmas.{named, points-push, place_after, horizon_kept}
 use Rattle.plan_laws.proofs.PlanLemmas.{restricts}
-use Rattle.plan_laws.proofs.RunLemmas.{run_fits}
+use Rattle.run_laws.proofs.RunLemmas.{run_fits}
 use Rattle.plan_laws.proofs.SpanLemmas.{starts_in}
 use Rattle.exec_laws.specs.Endings.{IsLastEnd}
 use Rattle.exec_laws.proofs.HorizonLemmas.{ending_of, horizon_at}

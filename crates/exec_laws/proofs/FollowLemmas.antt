@@ -3,12 +3,12 @@ use Rattle.std.proofs.Common.{◌≡◌, ℕ, Bool, true, false, not, nat_le, Li
 use Rattle.std.specs.Prelude.{ℤ, MatchOption}
 use Rattle.hs_base.specs.declared.mission.Mission.{Mission}
 use Rattle.hs_base.specs.declared.net.Bound.{Bound}
-use Rattle.hs_base.specs.declared.history.Entry.{Entry}
+use Rattle.hs_machine.specs.declared.history.Entry.{Entry}
 use Rattle.hs_base.specs.Network.{spread}
 use Rattle.hs_base.specs.Schedule.{bound}
 use Rattle.hs_base.specs.Fits.{Times, IsTiedTo as Tied}
-use Rattle.hs_base.specs.State.{count_at, bounds_at, executed, tick_at, watched}
-use Rattle.hs_base.specs.Machine.{Reply, done, due, not_yet, waits, observed, not_observed, already, no_point, failed, MayFire, MayGoOn, MustFire, IsForbiddenBy, IsLateBy, IsTied, IsLeastTie, TickReply, FireReply, ReportReply, PointReply, RefusedIf, EventReply, tick, fire, report}
+use Rattle.hs_machine.specs.State.{count_at, bounds_at, executed, tick_at, watched}
+use Rattle.hs_machine.specs.Machine.{Reply, done, due, not_yet, waits, observed, not_observed, already, no_point, failed, MayFire, MayGoOn, MustFire, IsForbiddenBy, IsLateBy, IsTied, IsLeastTie, TickReply, FireReply, ReportReply, PointReply, RefusedIf, EventReply, tick, fire, report}
 use Rattle.dispatcher.specs.State.{State, points, time_in, is_observed}
 use Rattle.dispatcher.specs.State as dispatch
 use Rattle.hs_base.specs.Fits.{MayBeNow, MayTick, IsDue, Forbids, LateBound}

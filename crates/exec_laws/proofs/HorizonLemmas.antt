@@ -6,18 +6,18 @@ use Rattle.std.specs.List.{AllByRecursion}
 use Rattle.hs_base.specs.declared.mission.Horizon.{Horizon}
 use Rattle.hs_base.specs.declared.mission.Mission.{Mission}
 use Rattle.hs_base.specs.declared.plan.Extension.{Extension}
-use Rattle.hs_base.specs.declared.history.Entry.{Entry}
+use Rattle.hs_machine.specs.declared.history.Entry.{Entry}
 use Rattle.hs_base.specs.Ranges.{range}
 use Rattle.hs_base.specs.Schedule.{Schedule, Meets, Holds}
 use Rattle.hs_base.specs.Points.{count, hor}
 use Rattle.hs_base.specs.Bounds.{new_bounds, exactly, on_some, IsScheduleOf}
-use Rattle.hs_base.specs.State.{plan_of, executed, tick_at, has_ended}
-use Rattle.hs_base.specs.Machine.{MayGoOn}
-use Rattle.hs_base.specs.Run.{Run}
+use Rattle.hs_machine.specs.State.{plan_of, executed, tick_at, has_ended}
+use Rattle.hs_machine.specs.Machine.{MayGoOn}
+use Rattle.hs_machine.specs.Run.{Run}
 use Rattle.base_laws.proofs.ListLemmas.{EachAfter-push}
 use Rattle.base_laws.proofs.PointLemmas.{horizon_number, count-push}
 use Rattle.plan_laws.proofs.LengthLemmas.{in_range, each_extension, horizon_part}
-use Rattle.plan_laws.proofs.RunLemmas.{run_fits}
+use Rattle.run_laws.proofs.RunLemmas.{run_fits}
 
 -- a list that isn't empty ends with an element
 pub record Ending {X : Type 0} (xs : List X) : Type 0 where

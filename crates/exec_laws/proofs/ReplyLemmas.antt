@@ -3,15 +3,15 @@ use Rattle.std.proofs.Common.{◌≡◌, ◌≢◌, ℕ, ◌<◌, Bool, true, fa
 use Rattle.std.proofs.lemmas.Bool.Decides.{nat_tests}
 use Rattle.hs_base.specs.declared.ids.PointId.{PointId}
 use Rattle.hs_base.specs.declared.mission.Mission.{Mission}
-use Rattle.hs_base.specs.declared.history.Entry.{Entry}
-use Rattle.hs_base.specs.declared.history.Deed.{Deed}
-use Rattle.hs_base.specs.declared.history.Deed.TheVariants.{Fire, Report, Late, Early, Broken}
-use Rattle.hs_base.specs.declared.history.Phase.{Phase}
-use Rattle.hs_base.specs.declared.history.Phase.TheVariants.{Waiting, Running, Failed, Ended}
-use Rattle.hs_base.specs.State.{count_at, executed, phase_of, executes, is_failure, hands_over, is_tick}
-use Rattle.hs_base.specs.Machine.{Event, fire, report, done, over, no_net, no_point, failed, RefusedIf, PointReply, Replies, IsLeftBy, MayFire, is_over, is_waiting, needs_net}
-use Rattle.hs_base.specs.Machine as machine
-use Rattle.plan_laws.proofs.RunLemmas.{otherwise}
+use Rattle.hs_machine.specs.declared.history.Entry.{Entry}
+use Rattle.hs_machine.specs.declared.history.Deed.{Deed}
+use Rattle.hs_machine.specs.declared.history.Deed.TheVariants.{Fire, Report, Late, Early, Broken}
+use Rattle.hs_machine.specs.declared.history.Phase.{Phase}
+use Rattle.hs_machine.specs.declared.history.Phase.TheVariants.{Waiting, Running, Failed, Ended}
+use Rattle.hs_machine.specs.State.{count_at, executed, phase_of, executes, is_failure, hands_over, is_tick}
+use Rattle.hs_machine.specs.Machine.{Event, fire, report, done, over, no_net, no_point, failed, RefusedIf, PointReply, Replies, IsLeftBy, MayFire, is_over, is_waiting, needs_net}
+use Rattle.hs_machine.specs.Machine as machine
+use Rattle.run_laws.proofs.RunLemmas.{otherwise}
 use Rattle.plan_laws.proofs.RunLemmas as run
 
 -- what is answered otherwise than by Over is not over

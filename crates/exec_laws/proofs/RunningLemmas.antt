@@ -9,23 +9,23 @@ use Rattle.hs_base.specs.declared.ids.PointId.{PointId}
 use Rattle.hs_base.specs.declared.mission.Mission.{Mission}
 use Rattle.hs_base.specs.declared.plan.Extension.{Extension}
 use Rattle.hs_base.specs.declared.net.Net.{Net}
-use Rattle.hs_base.specs.declared.history.Entry.{Entry}
-use Rattle.hs_base.specs.declared.history.Deed.{Deed}
-use Rattle.hs_base.specs.declared.history.Deed.TheVariants.{Handover}
-use Rattle.hs_base.specs.declared.history.Phase.TheVariants.{Running}
+use Rattle.hs_machine.specs.declared.history.Entry.{Entry}
+use Rattle.hs_machine.specs.declared.history.Deed.{Deed}
+use Rattle.hs_machine.specs.declared.history.Deed.TheVariants.{Handover}
+use Rattle.hs_machine.specs.declared.history.Phase.TheVariants.{Running}
 use Rattle.hs_base.specs.Points.{Point, count, points_of, device_ends, is_observed}
 use Rattle.hs_base.specs.Bounds.{bounds_of}
 use Rattle.hs_base.specs.Network.{spread}
 use Rattle.hs_base.specs.Reduced.{IsReducedOf}
 use Rattle.hs_base.specs.Fits.{put, time_at, LateBound}
 use Rattle.hs_base.specs.Dispatch.{IsReached}
-use Rattle.hs_base.specs.State.{now_of, plan_of, count_at, bounds_at, executed, tick_at, watched, phase_of, executes, hands_over}
-use Rattle.hs_base.specs.Machine.{Event, Reply, tick, fire, report, handover, done, due, over, no_net, MayFire, MustFire, IsTied, Replies, EventReply, HandoverReply, IsLeftBy}
-use Rattle.hs_base.specs.Run.{MayAdd, Run}
+use Rattle.hs_machine.specs.State.{now_of, plan_of, count_at, bounds_at, executed, tick_at, watched, phase_of, executes, hands_over}
+use Rattle.hs_machine.specs.Machine.{Event, Reply, tick, fire, report, handover, done, due, over, no_net, MayFire, MustFire, IsTied, Replies, EventReply, HandoverReply, IsLeftBy}
+use Rattle.hs_machine.specs.Run.{MayAdd, Run}
 use Rattle.base_laws.proofs.ListLemmas.{snoc_induction}
 use Rattle.base_laws.proofs.PointLemmas.{count-push}
-use Rattle.plan_laws.proofs.StateLemmas.{plan_kept, plan_handed, times_kept, executed-put, now_of-push}
-use Rattle.plan_laws.proofs.RunLemmas.{run_fits, event_reply, offered_base, otherwise}
+use Rattle.run_laws.proofs.StateLemmas.{plan_kept, plan_handed, times_kept, executed-put, now_of-push}
+use Rattle.run_laws.proofs.RunLemmas.{run_fits, event_reply, offered_base, otherwise}
 use Rattle.net_laws.proofs.ExactLemmas.{exact, reduced_again}
 use Rattle.net_laws.proofs.AnswerLemmas.{fits_both}
 use Rattle.net_laws.proofs.MoveLemmas.{tick_or}

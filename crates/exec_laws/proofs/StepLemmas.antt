@@ -8,18 +8,18 @@ use Rattle.std.specs.Prelude.{ℤ}
 use Rattle.hs_base.specs.declared.ids.PointId.{PointId}
 use Rattle.hs_base.specs.declared.mission.Mission.{Mission}
 use Rattle.hs_base.specs.declared.plan.Extension.{Extension}
-use Rattle.hs_base.specs.declared.history.Entry.{Entry}
-use Rattle.hs_base.specs.declared.history.Deed.{Deed}
-use Rattle.hs_base.specs.declared.history.Phase.TheVariants.{Waiting, Running, Failed, Ended}
+use Rattle.hs_machine.specs.declared.history.Entry.{Entry}
+use Rattle.hs_machine.specs.declared.history.Deed.{Deed}
+use Rattle.hs_machine.specs.declared.history.Phase.TheVariants.{Waiting, Running, Failed, Ended}
 use Rattle.hs_base.specs.Points.{count, is_observed as ends_by_device}
 use Rattle.hs_base.specs.Bounds.{bounds_of}
 use Rattle.hs_base.specs.Reduced.{IsReducedOf}
 use Rattle.hs_base.specs.Fits.{put, time_at}
-use Rattle.hs_base.specs.State.{now_of, plan_of, executed, tick_at, is_tick, is_failure, executes, hands_over, has_failed, has_ended, is_empty, phase_of}
-use Rattle.hs_base.specs.Machine.{Event, Reply, Replies, EventReply, IsLeftBy, Turn, over, no_net, is_over, needs_net, leaves_deed}
-use Rattle.hs_base.specs.Run.{MayAdd, Run}
+use Rattle.hs_machine.specs.State.{now_of, plan_of, executed, tick_at, is_tick, is_failure, executes, hands_over, has_failed, has_ended, is_empty, phase_of}
+use Rattle.hs_machine.specs.Machine.{Event, Reply, Replies, EventReply, IsLeftBy, Turn, over, no_net, is_over, needs_net, leaves_deed}
+use Rattle.hs_machine.specs.Run.{MayAdd, Run}
 use Rattle.base_laws.proofs.ListLemmas.{EachAfter-more}
-use Rattle.plan_laws.proofs.StateLemmas.{times_kept, executed-put, now_of-push, plan_kept}
+use Rattle.run_laws.proofs.StateLemmas.{times_kept, executed-put, now_of-push, plan_kept}
 use Rattle.dispatcher.specs.State.{State, times_in, time_in, fired, ticked}
 use Rattle.exec_laws.specs.Follows.{Follows}
 

@@ -1,6 +1,6 @@
 -- What a dispatch decides of an event, as the machine's reply to it.
 use Rattle.std.specs.Prelude.{◌≡◌, ℕ, not, nat_le, MatchOption}
-use Rattle.hs_base.specs.Machine.{Reply, done, due, not_yet, waits, observed, not_observed, already, no_point, failed, RefusedIf}
+use Rattle.hs_machine.specs.Machine.{Reply, done, due, not_yet, waits, observed, not_observed, already, no_point, failed, RefusedIf}
 use Rattle.dispatcher.specs.State.{State, points, time_in, is_observed, MayFire, MayGoOn, MustFire, IsLate, Bars, IsTiedTo, IsLeastTied}
 
 abbrev pub DecidesTick : State → Reply → Type 0

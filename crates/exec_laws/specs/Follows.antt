@@ -1,9 +1,9 @@
 -- A dispatch that follows a history of the machine.
 use Rattle.std.specs.Prelude.{◌≡◌, length, List}
 use Rattle.hs_base.specs.declared.mission.Mission.{Mission}
-use Rattle.hs_base.specs.declared.history.Entry.{Entry}
+use Rattle.hs_machine.specs.declared.history.Entry.{Entry}
 use Rattle.hs_base.specs.Reduced.{IsReducedOf}
-use Rattle.hs_base.specs.State.{count_at, bounds_at, executed, tick_at, watched}
+use Rattle.hs_machine.specs.State.{count_at, bounds_at, executed, tick_at, watched}
 use Rattle.dispatcher.specs.State.{State, time_in, is_observed}
 
 -- it has the newest plan's reduced network and observed points, the executed times, and now

@@ -1,8 +1,8 @@
 -- What can be done in a running state.
 use Rattle.std.specs.Prelude.{◌⊎◌, ℕ, List}
 use Rattle.hs_base.specs.declared.mission.Mission.{Mission}
-use Rattle.hs_base.specs.declared.history.Entry.{Entry}
-use Rattle.hs_base.specs.Machine.{Replies, tick, fire, report, done}
+use Rattle.hs_machine.specs.declared.history.Entry.{Entry}
+use Rattle.hs_machine.specs.Machine.{Replies, tick, fire, report, done}
 
 -- a tick, some fire or some report is answered with Done
 pub record GoesOn (m : Mission) (h : List Entry) : Type 0 where

@@ -1,11 +1,11 @@
 ghost use Rattle.std.specs.Prelude.{◌≡◌, ℕ, ◌<◌, ℤ, pos, List, Some};
 ghost use Rattle.hs_base.specs.declared.mission.Mission.{Mission};
 ghost use Rattle.hs_base.specs.declared.net.Bound.{Bound};
-ghost use Rattle.hs_base.specs.declared.history.Entry.{Entry};
+ghost use Rattle.hs_machine.specs.declared.history.Entry.{Entry};
 ghost use Rattle.hs_base.specs.Schedule.{Schedule};
 ghost use Rattle.hs_base.specs.Reduced.{Table, IsTableOf};
 ghost use Rattle.hs_base.specs.Fits.{Times, Fits};
-ghost use Rattle.hs_base.specs.Machine.{Reply, tick, fire, report, EventReply};
+ghost use Rattle.hs_machine.specs.Machine.{Reply, tick, fire, report, EventReply};
 ghost use Rattle.dispatcher.specs.State.{State};
 ghost use Rattle.exec_laws.specs.Follows.{Follows};
 ghost use Rattle.exec_laws.specs.Decisions.{DecidesTick, DecidesFire, DecidesReport};

@@ -1,11 +1,11 @@
 ghost use Rattle.std.specs.Prelude.{◌≡◌, ◌<◌, ℕ, List, None};
 ghost use Rattle.hs_base.specs.declared.mission.Mission.{Mission};
-ghost use Rattle.hs_base.specs.declared.history.Entry.{Entry};
-ghost use Rattle.hs_base.specs.declared.history.Phase.TheVariants.{Running, Ended};
+ghost use Rattle.hs_machine.specs.declared.history.Entry.{Entry};
+ghost use Rattle.hs_machine.specs.declared.history.Phase.TheVariants.{Running, Ended};
 ghost use Rattle.hs_base.specs.Checked.{Checked};
-ghost use Rattle.hs_base.specs.State.{plan_of, count_at, executed, phase_of};
-ghost use Rattle.hs_base.specs.Machine.{Replies, tick, fire, done, due};
-ghost use Rattle.hs_base.specs.Run.{Run};
+ghost use Rattle.hs_machine.specs.State.{plan_of, count_at, executed, phase_of};
+ghost use Rattle.hs_machine.specs.Machine.{Replies, tick, fire, done, due};
+ghost use Rattle.hs_machine.specs.Run.{Run};
 ghost use Rattle.exec_laws.specs.Running.{GoesOn};
 ghost use Rattle.exec_laws.specs.Endings.{IsLastEnd};
 

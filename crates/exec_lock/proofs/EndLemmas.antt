@@ -5,9 +5,9 @@ use mathlib.Core.Option.{some, some-injective}
 use mathlib.Core.Option as maybe
 use lib.ListN.{get_elem?}
 use Rattle.atomic_table.specs.Table.{State, opening, Final, Seen}
-use Rattle.hs_base.specs.declared.history.Entry.{Entry}
+use Rattle.hs_machine.specs.declared.history.Entry.{Entry}
 use Rattle.hs_base.specs.declared.mission.Mission.{Mission}
-use Rattle.hs_base.specs.Histories.{IsPrefix}
+use Rattle.hs_machine.specs.Histories.{IsPrefix}
 use Rattle.exec_lock.specs.declared.view.SeatView.{SeatView}
 use Rattle.exec_lock.specs.Passes.{placed, of, is_in, covers, size}
 use Rattle.exec_lock.specs.Shares.{Ends}

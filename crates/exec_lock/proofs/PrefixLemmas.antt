@@ -3,8 +3,8 @@ use Rattle.std.proofs.Common.{Bool, ◌≡◌, ◌≢◌, ℕ, zero, suc, ◌+�
 use Rattle.std.specs.List.{AllByRecursion}
 use Rattle.std.proofs.lemmas.Bool.Decides.{nat_tests}
 use Rattle.std.proofs.lemmas.List.Elements.{filter-append}
-use Rattle.hs_base.specs.declared.history.Entry.{Entry}
-use Rattle.hs_base.specs.Histories.{IsPrefix}
+use Rattle.hs_machine.specs.declared.history.Entry.{Entry}
+use Rattle.hs_machine.specs.Histories.{IsPrefix}
 use Rattle.exec_lock.specs.declared.view.Placed.{Placed}
 use Rattle.exec_lock.specs.Passes.{placed, of, longer, shorter}
 use Rattle.exec_lock.specs.Rule.{when}

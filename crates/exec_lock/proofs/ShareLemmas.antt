@@ -8,9 +8,9 @@ use lib.Seq.{set-get_or}
 use prog.Atomic.{either}
 use Rattle.atomic_table.specs.Table.{State, Me, step, keeps, Allows, Splits, Joins}
 use Rattle.atomic_table.proofs.Lists.{set_again, set_else, at_longer, exchanged}
-use Rattle.hs_base.specs.declared.history.Entry.{Entry}
+use Rattle.hs_machine.specs.declared.history.Entry.{Entry}
 use Rattle.hs_base.specs.declared.mission.Mission.{Mission}
-use Rattle.hs_base.specs.Histories.{IsPrefix}
+use Rattle.hs_machine.specs.Histories.{IsPrefix}
 use Rattle.exec_lock.specs.declared.view.SeatView.{SeatView}
 use Rattle.exec_lock.specs.Passes.{placed, of, is_in, in_runs, covers}
 use Rattle.exec_lock.specs.Rule.{Agrees, IsFree, IsHeld, IsKept, heads, when, nobody, seat_left, seat_right, note_of, note_heard, seats_merged, learns_order}

@@ -4,8 +4,8 @@ use Rattle.std.specs.Prelude.{drop, slice_get, filter}
 use Rattle.std.proofs.lemmas.Bool.{cases_Bool}
 use Rattle.std.proofs.lemmas.Bool.Decides.{nat_tests}
 use Rattle.std.proofs.Math.Seq.{drop-append_seam, drop-length}
-use Rattle.hs_base.specs.declared.history.Entry.{Entry}
-use Rattle.hs_base.specs.Histories.{IsPrefix}
+use Rattle.hs_machine.specs.declared.history.Entry.{Entry}
+use Rattle.hs_machine.specs.Histories.{IsPrefix}
 use Rattle.exec_lock.specs.declared.view.Placed.{Placed}
 use Rattle.exec_lock.specs.declared.view.View.{View}
 use Rattle.exec_lock.specs.Passes.{Held, placed, of, heard}

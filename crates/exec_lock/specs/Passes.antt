@@ -1,7 +1,7 @@
 -- Passes: their numbers, their calls, and what they have seen of the history.
 use Rattle.std.specs.Prelude.{ℕ, suc, ◌+◌, ◌-◌, ◌==◌, ◌&&◌, nat_le, nat_lt, cond, List, [], ◌∷◌, ◌++◌, length, filter, drop}
 use Rattle.atomic_table.specs.Seated.{TableId}
-use Rattle.hs_base.specs.declared.history.Entry.{Entry}
+use Rattle.hs_machine.specs.declared.history.Entry.{Entry}
 use Rattle.hs_base.specs.declared.mission.Mission.{Mission}
 use Rattle.exec_lock.specs.declared.view.Placed.{Placed}
 use Rattle.exec_lock.specs.declared.view.Run.{Run}

@@ -3,9 +3,9 @@ use Rattle.std.specs.Prelude.{◌≡◌, ◌⊎◌, ℕ, zero, suc, ◌+◌, ◌
 use mathlib.Core.Option.{some, none}
 use lib.ListN.{get_elem?}
 use Rattle.atomic_table.specs.Table.{State, Me, Step}
-use Rattle.hs_base.specs.declared.history.Entry.{Entry}
+use Rattle.hs_machine.specs.declared.history.Entry.{Entry}
 use Rattle.hs_base.specs.declared.mission.Mission.{Mission}
-use Rattle.hs_base.specs.Histories.{IsPrefix}
+use Rattle.hs_machine.specs.Histories.{IsPrefix}
 use Rattle.exec_lock.specs.declared.view.Placed.{Placed}
 use Rattle.exec_lock.specs.declared.view.Run.{Run}
 use Rattle.exec_lock.specs.declared.view.SeatView.{SeatView}

@@ -1,8 +1,8 @@
 -- What a call and the end make of a shared core.
 use Rattle.std.specs.Prelude.{◌≡◌, ℕ, List, ◌++◌, length}
-use Rattle.hs_base.specs.declared.history.Entry.{Entry}
+use Rattle.hs_machine.specs.declared.history.Entry.{Entry}
 use Rattle.hs_base.specs.declared.mission.Mission.{Mission}
-use Rattle.hs_base.specs.Histories.{IsPrefix, Appends}
+use Rattle.hs_machine.specs.Histories.{IsPrefix, Appends}
 use Rattle.exec_lock.specs.declared.shared.Shared.{Shared}
 use Rattle.exec_lock.specs.declared.view.View.{View}
 use Rattle.exec_lock.specs.Passes.{Which, placed, of, called}

@@ -1,5 +1,5 @@
 ghost use Rattle.std.specs.Prelude.{◌≡◌, ◌+◌, ◌<◌, [], ◌∷◌, length, IfOk, IfErr};
-ghost use Rattle.hs_base.specs.Histories.{IsPrefix};
+ghost use Rattle.hs_machine.specs.Histories.{IsPrefix};
 ghost use Rattle.exec_lock.specs.Passes.{size, first_view, cut_left, cut_right, heard, merged};
 ghost use Rattle.exec_lock.specs.Shares.{which, core_shared, Calls, Ends};
 
@@ -9,7 +9,7 @@ use crate::shared::{Front, Left, Shared, Unshared};
 use crate::steps::seat_of;
 use crate::view::SeatView;
 use atomic_table::{Refused, Seat, Table};
-use hs_base::Core;
+use hs_machine::Core;
 use std::alloc::{AllocFailed, Global};
 use std::marker::Brand;
 use std::snapshot::Snapshot;

@@ -1,6 +1,6 @@
 use crate::view::SeatView;
 use atomic_table::{Join, Play, Split, TableRule};
-use hs_base::Core;
+use hs_machine::Core;
 use std::marker::{Brand, PhantomData};
 use std::snapshot::Snapshot;
 

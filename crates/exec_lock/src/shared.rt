@@ -3,7 +3,7 @@ ghost use Rattle.std.specs.Prelude.{◌≡◌};
 use crate::rule::Turns;
 use crate::view::SeatView;
 use atomic_table::Table;
-use hs_base::Core;
+use hs_machine::Core;
 use std::alloc::Global;
 use std::snapshot::Snapshot;
 

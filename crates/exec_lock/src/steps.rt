@@ -1,5 +1,5 @@
 ghost use Rattle.std.specs.Prelude.{◌≡◌, ◌<◌, [], ◌∷◌, false, true, length};
-ghost use Rattle.hs_base.specs.Histories.{IsPrefix, Appends};
+ghost use Rattle.hs_machine.specs.Histories.{IsPrefix, Appends};
 ghost use Rattle.exec_lock.specs.Rule.{taken, given, seat_left, seat_right, note_of, note_heard, seats_merged};
 ghost use Rattle.exec_lock.specs.Shares.{which};
 
@@ -7,7 +7,7 @@ use crate::rule::{Amount, Cut, Give, Hear, Learn, Merge, Take, TakeNote};
 use crate::shared::Shared;
 use crate::view::SeatView;
 use atomic_table::{Badge, Seat};
-use hs_base::Core;
+use hs_machine::Core;
 use std::mem;
 use std::sync::Wait;
 

@@ -1,5 +1,6 @@
 use super::*;
-use hs_base::{Core, Deed, Entry, List, Mission, PointId};
+use hs_base::{List, Mission, PointId};
+use hs_machine::{Core, Deed, Entry};
 use std::sync::Wait;
 use std::test::Fail;
 use std::thread::{Threads, join_mut};
@@ -17,7 +18,7 @@ impl Core for Tally {
     type Reply = bool;
 
     ghost use Rattle.std.specs.Prelude.{◌≡◌, ◌∷◌, [], ◌++◌, MatchBool};
-    ghost use Rattle.hs_base.specs.declared.history.Deed.TheVariants.{Fire};
+    ghost use Rattle.hs_machine.specs.declared.history.Deed.TheVariants.{Fire};
 
     ghost opening = { λ t. t.mission };
 

@@ -1,4 +1,5 @@
-use hs_base::{Entry, List, Mission};
+use hs_base::{List, Mission};
+use hs_machine::Entry;
 
 /// An entry with its place, which is the length of the history up to and including it.
 pub struct Placed {

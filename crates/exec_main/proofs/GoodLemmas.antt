@@ -3,13 +3,13 @@ use Rattle.std.proofs.Common.{◌≡◌, ℕ, ◌≤◌, List, [], ◌++◌, len
 use Rattle.std.specs.Prelude.{Some, None}
 use Rattle.std.specs.declared.option.Option.{Option}
 use Rattle.hs_base.specs.declared.limits.TheConstants.{TEXT_BYTES}
-use Rattle.hs_base.specs.declared.ast.Ast.{Ast}
+use Rattle.hs_texts.specs.declared.ast.Ast.{Ast}
 use Rattle.hs_base.specs.declared.mission.Mission.{Mission}
 use Rattle.hs_base.specs.declared.plan.Extension.{Extension}
-use Rattle.hs_base.specs.CanonicalText.{canonical}
+use Rattle.hs_texts.specs.CanonicalText.{canonical}
 use Rattle.hs_base.specs.Checked.{Checked}
-use Rattle.hs_base.specs.ClosingText.{checked_line}
-use Rattle.hs_base.specs.LogText.{log_text}
+use Rattle.hs_texts.specs.ClosingText.{checked_line}
+use Rattle.log_laws.specs.LogText.{log_text}
 use Rattle.search_tree.specs.Tree.{Found}
 use Rattle.plan_search.specs.First.{FindsFirst}
 use Rattle.command_line.specs.declared.request.Command.{Command}

@@ -5,19 +5,19 @@ use Rattle.std.specs.Prelude.{ℤ}
 use Rattle.hs_base.specs.declared.ids.PointId.{PointId}
 use Rattle.hs_base.specs.declared.mission.Mission.{Mission}
 use Rattle.hs_base.specs.declared.plan.Extension.{Extension}
-use Rattle.hs_base.specs.declared.history.Entry.{Entry}
-use Rattle.hs_base.specs.declared.history.Deed.{Deed}
-use Rattle.hs_base.specs.declared.history.Deed.TheVariants.{Tick, Fire, Report, Handover, Stale as StaleDeed, Late, Early, Broken}
-use Rattle.hs_base.specs.declared.history.Phase.TheVariants.{Running, Failed, Ended}
+use Rattle.hs_machine.specs.declared.history.Entry.{Entry}
+use Rattle.hs_machine.specs.declared.history.Deed.{Deed}
+use Rattle.hs_machine.specs.declared.history.Deed.TheVariants.{Tick, Fire, Report, Handover, Stale as StaleDeed, Late, Early, Broken}
+use Rattle.hs_machine.specs.declared.history.Phase.TheVariants.{Running, Failed, Ended}
 use Rattle.hs_base.specs.Fits.{time_at}
 use Rattle.hs_base.specs.Points.{hor, count}
-use Rattle.hs_base.specs.Run.{MayAdd, Run}
-use Rattle.hs_base.specs.State.{now_of, plan_of, executes, executed, hands_over, has_failed, has_ended, phase_of, watched}
-use Rattle.hs_base.specs.Machine.{Event, Reply, report, done, over, not_observed, is_over, leaves_deed, RefusedIf, Replies, IsLeftBy}
+use Rattle.hs_machine.specs.Run.{MayAdd, Run}
+use Rattle.hs_machine.specs.State.{now_of, plan_of, executes, executed, hands_over, has_failed, has_ended, phase_of, watched}
+use Rattle.hs_machine.specs.Machine.{Event, Reply, report, done, over, not_observed, is_over, leaves_deed, RefusedIf, Replies, IsLeftBy}
 use Rattle.base_laws.proofs.ListLemmas.{EachAfter-push}
 use Rattle.base_laws.proofs.PointLemmas.{horizon_number}
-use Rattle.plan_laws.proofs.StateLemmas.{plan_kept, plan_handed, times_kept, executed-put}
-use Rattle.plan_laws.proofs.RunLemmas.{event_reply, point_rest, fresh}
+use Rattle.run_laws.proofs.StateLemmas.{plan_kept, plan_handed, times_kept, executed-put}
+use Rattle.run_laws.proofs.RunLemmas.{event_reply, point_rest, fresh}
 use Rattle.exec_laws.proofs.ReplyLemmas.{not_over}
 use Rattle.exec_laws.proofs.StepLemmas.{phase_flying, phase_failed}
 use Rattle.exec_laws.proofs.HorizonLemmas.{ending_of}

@@ -3,18 +3,18 @@ use Rattle.std.proofs.Common.{◌≡◌, ℕ, true, false, List, [], ◌∷◌, 
 use Rattle.hs_base.specs.declared.ids.PointId.{PointId}
 use Rattle.hs_base.specs.declared.mission.Mission.{Mission}
 use Rattle.hs_base.specs.declared.plan.Extension.{Extension}
-use Rattle.hs_base.specs.declared.history.Entry.{Entry}
-use Rattle.hs_base.specs.declared.history.Deed.{Deed}
-use Rattle.hs_base.specs.declared.history.Deed.TheVariants.{Tick, Fire, Report, Handover, Stale as StaleDeed, Late, Early, Broken}
+use Rattle.hs_machine.specs.declared.history.Entry.{Entry}
+use Rattle.hs_machine.specs.declared.history.Deed.{Deed}
+use Rattle.hs_machine.specs.declared.history.Deed.TheVariants.{Tick, Fire, Report, Handover, Stale as StaleDeed, Late, Early, Broken}
 use Rattle.std.specs.Prelude.{option_to_list}
 use Rattle.hs_base.specs.Missions.{IsMission}
-use Rattle.hs_base.specs.Run.{Run}
-use Rattle.hs_base.specs.State.{is_tick, is_failure, hands_over}
-use Rattle.hs_base.specs.Eager.{NoneMayFire}
-use Rattle.hs_base.specs.Machine.{Event, tick, fire, report, broken, handover, done, stale, base_of, IsNext, IsLeftBy, IsAdded, Turn}
+use Rattle.hs_machine.specs.Run.{Run}
+use Rattle.hs_machine.specs.State.{is_tick, is_failure, hands_over}
+use Rattle.hs_machine.specs.Eager.{NoneMayFire}
+use Rattle.hs_machine.specs.Machine.{Event, tick, fire, report, broken, handover, done, stale, base_of, IsNext, IsLeftBy, IsAdded, Turn}
 use Rattle.base_laws.proofs.ListLemmas.{EachAfter-more}
-use Rattle.plan_laws.proofs.StateLemmas.{plan_kept}
-use Rattle.plan_laws.proofs.RunLemmas.{event_reply, offered_base}
+use Rattle.run_laws.proofs.StateLemmas.{plan_kept}
+use Rattle.run_laws.proofs.RunLemmas.{event_reply, offered_base}
 use Rattle.exec_laws.proofs.StepLemmas.{failed_more}
 use Rattle.flight_laws.specs.Flights.{BeginsByHandover, IsFlight}
 use Rattle.flight_laws.proofs.TurnLemmas.{with_deed, turn_run, turn_fired, turn_ticked}

@@ -3,14 +3,14 @@ use Rattle.std.proofs.Common.{◌≡◌, ◌≢◌, ℕ, ◌<◌, Bool, true, fa
 use Rattle.hs_base.specs.declared.ids.PointId.{PointId}
 use Rattle.hs_base.specs.declared.mission.Mission.{Mission}
 use Rattle.hs_base.specs.declared.plan.Extension.{Extension}
-use Rattle.hs_base.specs.declared.history.Entry.{Entry}
-use Rattle.hs_base.specs.declared.history.Deed.TheVariants.{Fire}
-use Rattle.hs_base.specs.declared.history.Phase.TheVariants.{Ended}
+use Rattle.hs_machine.specs.declared.history.Entry.{Entry}
+use Rattle.hs_machine.specs.declared.history.Deed.TheVariants.{Fire}
+use Rattle.hs_machine.specs.declared.history.Phase.TheVariants.{Ended}
 use Rattle.hs_base.specs.Checked.{Checked}
 use Rattle.hs_base.specs.Points.{count}
-use Rattle.hs_base.specs.State.{plan_of, has_ended, phase_of}
-use Rattle.hs_base.specs.Eager.{NoneMayFire}
-use Rattle.hs_base.specs.Machine.{Reply, tick, fire, handover, done, over, Turn, leaves_deed}
+use Rattle.hs_machine.specs.State.{plan_of, has_ended, phase_of}
+use Rattle.hs_machine.specs.Eager.{NoneMayFire}
+use Rattle.hs_machine.specs.Machine.{Reply, tick, fire, handover, done, over, Turn, leaves_deed}
 use Rattle.exec_laws.proofs.ReplyLemmas.{may_execute}
 use Rattle.exec_laws.proofs.StepLemmas.{phase_flying}
 use Rattle.flight_laws.specs.Flights.{steps_left, HasNoDevices, IsFlight, IsFlying, AreStill}

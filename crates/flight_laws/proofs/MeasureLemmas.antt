@@ -7,20 +7,20 @@ use Rattle.std.specs.Option.{is_none}
 use Rattle.hs_base.specs.declared.ids.PointId.{PointId}
 use Rattle.hs_base.specs.declared.mission.Mission.{Mission}
 use Rattle.hs_base.specs.declared.plan.Extension.{Extension}
-use Rattle.hs_base.specs.declared.history.Entry.{Entry}
-use Rattle.hs_base.specs.declared.history.Deed.TheVariants.{Tick, Fire}
+use Rattle.hs_machine.specs.declared.history.Entry.{Entry}
+use Rattle.hs_machine.specs.declared.history.Deed.TheVariants.{Tick, Fire}
 use Rattle.hs_base.specs.Missions.{IsHorizon}
 use Rattle.hs_base.specs.Checked.{Checked}
 use Rattle.hs_base.specs.Points.{count}
 use Rattle.hs_base.specs.Fits.{time_at}
 use Rattle.hs_base.specs.Schedule.{numbers_from}
-use Rattle.hs_base.specs.State.{now_of, plan_of, count_at, executed}
-use Rattle.hs_base.specs.Machine.{tick, fire, done, Replies}
+use Rattle.hs_machine.specs.State.{now_of, plan_of, count_at, executed}
+use Rattle.hs_machine.specs.Machine.{tick, fire, done, Replies}
 use Rattle.base_laws.proofs.ListLemmas.{each_at}
 use Rattle.net_laws.proofs.BetweenLemmas.{Has}
 use Rattle.net_laws.proofs.ListLemmas.{numbers_has}
-use Rattle.plan_laws.proofs.StateLemmas.{plan_kept, times_kept, executed-put, now_of-push}
-use Rattle.plan_laws.proofs.RunLemmas.{event_reply}
+use Rattle.run_laws.proofs.StateLemmas.{plan_kept, times_kept, executed-put, now_of-push}
+use Rattle.run_laws.proofs.RunLemmas.{event_reply}
 use Rattle.exec_laws.proofs.ReplyLemmas.{may_execute, done_running}
 use Rattle.exec_laws.proofs.StepLemmas.{running}
 use Rattle.exec_laws.proofs.HorizonLemmas.{before_tick}

@@ -3,14 +3,14 @@ use Rattle.std.proofs.Common.{◌≡◌, ◌≢◌, ℕ, Bool, true, false, nat_
 use Rattle.std.specs.Prelude.{ℤ, MatchOption, option_to_list}
 use Rattle.hs_base.specs.declared.ids.PointId.{PointId}
 use Rattle.hs_base.specs.declared.mission.Mission.{Mission}
-use Rattle.hs_base.specs.declared.history.Entry.{Entry}
-use Rattle.hs_base.specs.declared.history.Deed.{Deed}
-use Rattle.hs_base.specs.declared.history.Deed.TheVariants.{Tick, Fire, Report, Handover, Stale as StaleDeed, Late, Early, Broken}
-use Rattle.hs_base.specs.declared.history.Phase.TheVariants.{Running}
-use Rattle.hs_base.specs.Run.{Run}
-use Rattle.hs_base.specs.Eager.{NoneMayFire}
-use Rattle.hs_base.specs.State.{count_at, executed, watched, phase_of}
-use Rattle.hs_base.specs.Machine.{Event, Reply, tick, fire, report, broken, handover, done, due, not_yet, waits, observed, already, no_point, failed, over, no_net, RefusedIf, FireReply, TickReply, Replies, IsLeftBy, IsAdded, Turn, is_over, is_waiting, leaves_deed}
+use Rattle.hs_machine.specs.declared.history.Entry.{Entry}
+use Rattle.hs_machine.specs.declared.history.Deed.{Deed}
+use Rattle.hs_machine.specs.declared.history.Deed.TheVariants.{Tick, Fire, Report, Handover, Stale as StaleDeed, Late, Early, Broken}
+use Rattle.hs_machine.specs.declared.history.Phase.TheVariants.{Running}
+use Rattle.hs_machine.specs.Run.{Run}
+use Rattle.hs_machine.specs.Eager.{NoneMayFire}
+use Rattle.hs_machine.specs.State.{count_at, executed, watched, phase_of}
+use Rattle.hs_machine.specs.Machine.{Event, Reply, tick, fire, report, broken, handover, done, due, not_yet, waits, observed, already, no_point, failed, over, no_net, RefusedIf, FireReply, TickReply, Replies, IsLeftBy, IsAdded, Turn, is_over, is_waiting, leaves_deed}
 use Rattle.exec_laws.proofs.StepLemmas.{run_more}
 use Rattle.exec_laws.proofs.RunningLemmas.{due_done}
 use Rattle.flight_laws.specs.Flights.{IsUnwatched}

@@ -5,17 +5,17 @@ use Rattle.std.specs.List.{AllByRecursion}
 use Rattle.hs_base.specs.declared.ids.PointId.{PointId}
 use Rattle.hs_base.specs.declared.mission.Value.{Value}
 use Rattle.hs_base.specs.declared.mission.Var.{Var}
-use Rattle.hs_base.specs.declared.history.Deed.TheVariants.{Fire}
+use Rattle.hs_machine.specs.declared.history.Deed.TheVariants.{Fire}
 use Rattle.hs_base.specs.Points.{hor}
 use Rattle.hs_base.specs.declared.plan.Extension.{Extension}
 use Rattle.hs_base.specs.declared.mission.Mission.{Mission}
-use Rattle.hs_base.specs.declared.history.Entry.{Entry}
+use Rattle.hs_machine.specs.declared.history.Entry.{Entry}
 use Rattle.hs_base.specs.Schedule.{numbers_from}
-use Rattle.hs_base.specs.State.{now_of, plan_of, count_at, executed, has_failed, hands_over, watched}
+use Rattle.hs_machine.specs.State.{now_of, plan_of, count_at, executed, has_failed, hands_over, watched}
 use Rattle.hs_base.specs.Checked.{Checked}
-use Rattle.hs_base.specs.Machine.{fire, done, Replies}
-use Rattle.hs_base.specs.Eager.{Eager}
-use Rattle.hs_base.specs.Run.{Run}
+use Rattle.hs_machine.specs.Machine.{fire, done, Replies}
+use Rattle.hs_machine.specs.Eager.{Eager}
+use Rattle.hs_machine.specs.Run.{Run}
 
 -- the points that are not executed
 abbrev pub open_points : List Entry → List ℕ

@@ -1,11 +1,11 @@
 ghost use Rattle.std.specs.Prelude.{◌≡◌, ◌≢◌, ℕ, List, []};
 ghost use Rattle.hs_base.specs.declared.mission.Mission.{Mission};
 ghost use Rattle.hs_base.specs.declared.plan.Extension.{Extension};
-ghost use Rattle.hs_base.specs.declared.history.Entry.{Entry};
-ghost use Rattle.hs_base.specs.declared.history.Phase.TheVariants.{Ended};
+ghost use Rattle.hs_machine.specs.declared.history.Entry.{Entry};
+ghost use Rattle.hs_machine.specs.declared.history.Phase.TheVariants.{Ended};
 ghost use Rattle.hs_base.specs.Missions.{IsMission};
-ghost use Rattle.hs_base.specs.State.{plan_of, phase_of};
-ghost use Rattle.hs_base.specs.Machine.{handover, done, Turn};
+ghost use Rattle.hs_machine.specs.State.{plan_of, phase_of};
+ghost use Rattle.hs_machine.specs.Machine.{handover, done, Turn};
 ghost use Rattle.flight_laws.specs.Flights.{HasNoDevices, IsFlight, EndsByFiring, mark_of};
 
 /// The first handover that is Done begins the flight of its plan.

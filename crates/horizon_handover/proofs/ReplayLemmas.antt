@@ -9,7 +9,7 @@ use Rattle.hs_base.specs.declared.plan.Time.{Time}
 use Rattle.hs_base.specs.Schedule.{Schedule}
 use Rattle.hs_base.specs.Fits.{time_at, Fits}
 use Rattle.hs_base.specs.Dispatch.{or_else}
-use Rattle.plan_laws.proofs.StateLemmas.{time_at-append}
+use Rattle.run_laws.proofs.StateLemmas.{time_at-append}
 
 front_time : (front rest : List Time) (x : ℕ) (u : ℤ) → time_at front x ≡ Some u → time_at (front ++ rest) x ≡ Some u
 front_time front rest x u is = time_at-append front rest x ∙ ap (λ (o : Option ℤ). or_else o (time_at rest x)) is

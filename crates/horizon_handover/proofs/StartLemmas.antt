@@ -17,7 +17,7 @@ use Rattle.hs_base.specs.Reduced.{IsReducedOf}
 use Rattle.hs_base.specs.Fits.{Fits, time_at}
 use Rattle.hs_base.specs.Dispatch.{IsReached}
 use Rattle.hs_base.specs.Checked.{Checked}
-use Rattle.hs_base.specs.State.{times_of, executed}
+use Rattle.hs_machine.specs.State.{times_of, executed}
 use Rattle.plan_laws.proofs.FitLemmas.{after_origin}
 use Rattle.net_laws.proofs.ExactLemmas.{reduced_again}
 use Rattle.net_laws.proofs.AnswerLemmas.{fits_both}

@@ -7,7 +7,7 @@ use Rattle.hs_base.specs.Bounds.{bounds_of}
 use Rattle.hs_base.specs.Checked.{Checked}
 use Rattle.hs_base.specs.Reduced.{IsReducedOf}
 use Rattle.hs_base.specs.Fits.{Times}
-use Rattle.hs_base.specs.State.{executed}
+use Rattle.hs_machine.specs.State.{executed}
 use Rattle.stn_distance.specs.Distances.{Distances, IsDistOf}
 use Rattle.dispatcher.specs.State.{State, time_in, is_observed}
 use Rattle.plan_check.specs.Planned.{Planned}

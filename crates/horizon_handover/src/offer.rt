@@ -1,6 +1,6 @@
 ghost use Rattle.std.specs.Prelude.{◌≡◌, pos, []};
 ghost use Rattle.hs_base.specs.Checked.{Checked};
-ghost use Rattle.hs_base.specs.State.{executed};
+ghost use Rattle.hs_machine.specs.State.{executed};
 ghost use Rattle.horizon_handover.specs.Offers.{IsDispatchOf, IsLast};
 
 use dispatcher::Dispatch;

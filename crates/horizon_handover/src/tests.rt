@@ -5,10 +5,7 @@ ghost use Rattle.base_laws.specs.Samples.{smallest, plain_value};
 use super::*;
 use base_laws::the_smallest_mission_is_one;
 use edge_filter::reform;
-use hs_base::{
-    Extension, Fault, Horizon, Kind, LAST, List, Memory, Mission, Name, Range, SvId, ValId, Value,
-    Var,
-};
+use hs_base::{Extension, Fault, Horizon, Kind, LAST, List, Memory, Mission, Name, Range, SvId, ValId, Value, Var};
 use plan_check::{CheckedPlan, check};
 use std::alloc::Global;
 use std::test::Fail;

@@ -27,28 +27,5 @@ pub use Rattle.hs_base.specs.declared.net.Bound.{Bound}
 pub use Rattle.hs_base.specs.declared.net.Member.{Member}
 pub use Rattle.hs_base.specs.declared.net.Group.{Group}
 pub use Rattle.hs_base.specs.declared.net.Net.{Net}
-pub use Rattle.hs_base.specs.declared.history.Deed.{Deed}
-pub use Rattle.hs_base.specs.declared.history.Deed.TheVariants.{Tick, Fire, Report, Handover, Stale, Late, Early, Broken}
-pub use Rattle.hs_base.specs.declared.history.Entry.{Entry}
-pub use Rattle.hs_base.specs.declared.history.Phase.{Phase}
-pub use Rattle.hs_base.specs.declared.history.Phase.TheVariants.{Waiting, Running, Failed, Ended}
-pub use Rattle.hs_base.specs.declared.ast.Sort.{Sort}
-pub use Rattle.hs_base.specs.declared.ast.Param.{Param}
-pub use Rattle.hs_base.specs.declared.ast.Arg.{Arg}
-pub use Rattle.hs_base.specs.declared.ast.Arg.TheVariants.{Name as ArgName, Any as ArgAny}
-pub use Rattle.hs_base.specs.declared.ast.Use.{Use}
-pub use Rattle.hs_base.specs.declared.ast.AstStep.{AstStep}
-pub use Rattle.hs_base.specs.declared.ast.AstStep.TheVariants.{Do as AstDo, Until as AstUntil}
-pub use Rattle.hs_base.specs.declared.ast.AstSaid.{AstSaid}
-pub use Rattle.hs_base.specs.declared.ast.AstKind.{AstKind}
-pub use Rattle.hs_base.specs.declared.ast.AstValue.{AstValue}
-pub use Rattle.hs_base.specs.declared.ast.AstVar.{AstVar}
-pub use Rattle.hs_base.specs.declared.ast.AstChoice.{AstChoice}
-pub use Rattle.hs_base.specs.declared.ast.AstNeed.{AstNeed}
-pub use Rattle.hs_base.specs.declared.ast.AstGoal.{AstGoal}
-pub use Rattle.hs_base.specs.declared.ast.AstHorizon.{AstHorizon}
-pub use Rattle.hs_base.specs.declared.ast.Ast.{Ast}
-pub use Rattle.hs_base.specs.declared.refusal.Refusal.{Refusal}
-pub use Rattle.hs_base.specs.declared.refusal.Refusal.TheVariants.{NotUtf8, Char, Expected, Number, Trailing, Twice, Unknown, Range as BadRange, Limit, NoBegin, Horizons, SameVar, SameBy, Memory as NoMemory}
 pub use Rattle.hs_base.specs.declared.fault.Fault.{Fault}
 pub use Rattle.hs_base.specs.declared.fault.Fault.TheVariants.{Base, Limit as OverLimit, Order, Fixed, WrongSupport, Unsupported, Goal as NoGoal, Cycle, Memory as NoMemoryLeft}

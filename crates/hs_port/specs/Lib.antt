@@ -3,4 +3,3 @@ pub mod Told
 pub mod Streams
 pub mod Calls
 pub mod Forms
-pub mod Reports

@@ -5,11 +5,11 @@ use Rattle.std.proofs.lemmas.Bool.Decides.{eqb_tells}
 use Rattle.hs_base.specs.declared.ids.PointId.{PointId}
 use Rattle.hs_base.specs.declared.plan.Time.{Time}
 use Rattle.hs_base.specs.declared.plan.Extension.{Extension}
-use Rattle.hs_base.specs.declared.history.Entry.{Entry}
-use Rattle.hs_base.specs.declared.history.Phase.TheVariants.{Waiting, Running, Failed, Ended}
+use Rattle.hs_machine.specs.declared.history.Entry.{Entry}
+use Rattle.hs_machine.specs.declared.history.Phase.TheVariants.{Waiting, Running, Failed, Ended}
 use Rattle.hs_base.specs.Points.{hor}
 use Rattle.hs_base.specs.Fits.{time_at}
-use Rattle.hs_base.specs.State.{executes, ticks_of, times_from, times_of, plan_of, has_failed, has_ended, is_empty, phase_of}
+use Rattle.hs_machine.specs.State.{executes, ticks_of, times_from, times_of, plan_of, has_failed, has_ended, is_empty, phase_of}
 use Rattle.journal_text.specs.Stands.{newest_horizon, is_point, executes_point}
 
 -- a plan with a horizon point is not empty, and the point is not the origin

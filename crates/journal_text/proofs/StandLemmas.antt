@@ -7,11 +7,11 @@ use Rattle.std.proofs.lemmas.List.Elements.{filter_map-append}
 use Rattle.hs_base.specs.declared.ids.PointId.{PointId}
 use Rattle.hs_base.specs.declared.plan.Extension.{Extension}
 use Rattle.hs_base.specs.declared.net.Net.{Net}
-use Rattle.hs_base.specs.declared.history.Deed.{Deed}
-use Rattle.hs_base.specs.declared.history.Deed.TheVariants.{Tick, Fire, Report, Handover, Stale, Late, Early, Broken}
-use Rattle.hs_base.specs.declared.history.Entry.{Entry}
+use Rattle.hs_machine.specs.declared.history.Deed.{Deed}
+use Rattle.hs_machine.specs.declared.history.Deed.TheVariants.{Tick, Fire, Report, Handover, Stale, Late, Early, Broken}
+use Rattle.hs_machine.specs.declared.history.Entry.{Entry}
 use Rattle.hs_base.specs.Points.{Point, points_of, tokens_of, hor, count}
-use Rattle.hs_base.specs.State.{is_tick, hands_over, ticks_of, now_of, plan_of}
+use Rattle.hs_machine.specs.State.{is_tick, hands_over, ticks_of, now_of, plan_of}
 use Rattle.base_laws.proofs.PointLemmas.{horizon_number, count_is, count-push}
 use Rattle.journal_text.specs.Stands.{newest_horizon, StandsAt}
 

@@ -2,10 +2,10 @@
 use Rattle.std.specs.Prelude.{◌≡◌, ℕ, Bool, false, nat_eq, List, [], ◌∷◌, length, Option, Some, None}
 use Rattle.hs_base.specs.declared.ids.PointId.{PointId}
 use Rattle.hs_base.specs.declared.plan.Extension.{Extension}
-use Rattle.hs_base.specs.declared.history.Entry.{Entry}
-use Rattle.hs_base.specs.declared.history.Deed.{Deed}
+use Rattle.hs_machine.specs.declared.history.Entry.{Entry}
+use Rattle.hs_machine.specs.declared.history.Deed.{Deed}
 use Rattle.hs_base.specs.Points.{Point, points_of, hor}
-use Rattle.hs_base.specs.State.{now_of, plan_of, executes}
+use Rattle.hs_machine.specs.State.{now_of, plan_of, executes}
 
 -- the horizon point of the newest plan, if there is one
 abbrev pub newest_horizon : List Extension → Option PointId

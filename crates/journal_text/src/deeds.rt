@@ -2,12 +2,14 @@ ghost use Rattle.std.specs.Prelude.{◌≡◌, ◌+◌, ◌^◌, ◌<◌, ◌++�
 ghost use Rattle.std.specs.Fmt.{decimal, signed_decimal};
 ghost use Rattle.hs_base.specs.declared.plan.Extension.{Extension};
 ghost use Rattle.hs_base.specs.Points.{points_of};
-ghost use Rattle.hs_base.specs.Written.{variable_name, point_in, bound_in, body_in};
-ghost use Rattle.hs_base.specs.NetText.{counts_text};
-ghost use Rattle.hs_base.specs.LogText.{at_text, fired_text, deed_text, phase_text, stop_text};
+ghost use Rattle.hs_texts.specs.Written.{variable_name, point_in, bound_in, body_in};
+ghost use Rattle.hs_texts.specs.NetText.{counts_text};
+ghost use Rattle.log_laws.specs.LogText.{at_text, fired_text, deed_text, phase_text, stop_text};
 ghost use Rattle.plan_text.specs.Named.{named, with_extension};
 
-use hs_base::{Bound, Deed, Extension, Memory, Mission, Net, Phase, PointId, SvId, Text};
+use hs_base::{Bound, Extension, Memory, Mission, Net, PointId, SvId};
+use hs_machine::{Deed, Phase};
+use hs_texts::Text;
 use plan_text::{
     PointName, PointNames, push_body, push_bound, push_bound_with, push_counts, push_name,
     push_number, push_point, push_signed, push_variable,

@@ -1,11 +1,13 @@
 ghost use Rattle.std.specs.Prelude.{◌≡◌, ◌+◌, ◌^◌, ◌<◌, IfOk};
-ghost use Rattle.hs_base.specs.State.{count_at};
-ghost use Rattle.hs_base.specs.LogText.{log_text};
+ghost use Rattle.hs_machine.specs.State.{count_at};
+ghost use Rattle.log_laws.specs.LogText.{log_text};
 
 use crate::deeds::{push_deed, push_stop};
 use crate::phases::phase;
 use crate::progress::Progress;
-use hs_base::{Entry, Memory, Mission, Text};
+use hs_base::{Memory, Mission};
+use hs_machine::Entry;
+use hs_texts::Text;
 use std::alloc::Global;
 
 /// The log of a history. Ticks write nothing; the times of the other entries tell them.

@@ -1,9 +1,10 @@
 ghost use Rattle.std.specs.Prelude.{◌≡◌};
 ghost use Rattle.std.specs.List.{list_any};
-ghost use Rattle.hs_base.specs.State.{is_failure, has_failed, phase_of, plan_of};
+ghost use Rattle.hs_machine.specs.State.{is_failure, has_failed, phase_of, plan_of};
 ghost use Rattle.journal_text.specs.Stands.{newest_horizon, executes_point};
 
-use hs_base::{Deed, Entry, Phase, PointId};
+use hs_base::PointId;
+use hs_machine::{Deed, Entry, Phase};
 
 /// Whether the deed ends a run before its horizon.
 fn fails(deed: &Deed) -> bool

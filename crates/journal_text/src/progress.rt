@@ -1,10 +1,11 @@
 ghost use Rattle.std.specs.Prelude.{◌+◌, ◌^◌, ◌<◌, [], ◌∷◌, ◌++◌, List, length, IfOk, OnOk};
 ghost use Rattle.std.specs.Option.{ForSome};
-ghost use Rattle.hs_base.specs.declared.history.Entry.{Entry};
-ghost use Rattle.hs_base.specs.State.{hands_over};
+ghost use Rattle.hs_machine.specs.declared.history.Entry.{Entry};
+ghost use Rattle.hs_machine.specs.State.{hands_over};
 ghost use Rattle.journal_text.specs.Stands.{StandsAt};
 
-use hs_base::{Deed, Entry, Memory, PointId};
+use hs_base::{Memory, PointId};
+use hs_machine::{Deed, Entry};
 use plan_text::PointNames;
 use std::alloc::Global;
 

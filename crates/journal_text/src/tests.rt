@@ -1,11 +1,9 @@
 ghost use Rattle.std.specs.Prelude.{◌≡◌, ◌+◌, ◌^◌, ◌<◌, IfOk};
-ghost use Rattle.hs_base.specs.State.{count_at};
+ghost use Rattle.hs_machine.specs.State.{count_at};
 
 use crate::write;
-use hs_base::{
-    Bound, Deed, Entry, Extension, Group, Kind, LAST, List, Memory, Mission, Name, Net, PointId,
-    Range, SvId, Time, ValId, Value, Var,
-};
+use hs_base::{Bound, Extension, Group, Kind, LAST, List, Memory, Mission, Name, Net, PointId, Range, SvId, Time, ValId, Value, Var};
+use hs_machine::{Deed, Entry};
 use std::alloc::Global;
 use std::test::Fail;
 

@@ -1,5 +1,5 @@
 -- A snapshot as the definitions have it.
-use Rattle.hs_base.specs.Views as views
+use Rattle.hs_base.specs.Snapshots as views
 use Rattle.plan_check.specs.declared.snapshot.Snapshot.{Snapshot}
 
 abbrev pub seen : Snapshot → views.Snapshot

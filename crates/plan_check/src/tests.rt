@@ -5,10 +5,7 @@ ghost use Rattle.base_laws.specs.Samples.{camera, plain_value, device_value, val
 
 use super::*;
 use base_laws::the_camera_mission_is_one;
-use hs_base::{
-    Choice, Copies, Extension, Fault, Goal, Horizon, Kind, LAST, List, Memory, Mission, Name, Need,
-    PointId, Range, Relation, Said, Step, Support, SvId, Time, TokenRef, ValId, Value, Var, WordId,
-};
+use hs_base::{Choice, Copies, Extension, Fault, Goal, Horizon, Kind, LAST, List, Memory, Mission, Name, Need, PointId, Range, Relation, Said, Step, Support, SvId, Time, TokenRef, ValId, Value, Var, WordId};
 use std::alloc::Global;
 use std::test::Fail;
 

@@ -1,9 +1,8 @@
-//! Laws of plans and of the schedule machine, over the definitions alone.
+//! Laws of plans, over the definitions alone.
 #![tactic(auto)]
 
 mod distances;
 mod faults;
-mod runs;
 mod samples;
 mod schedules;
 mod timelines;
@@ -12,10 +11,7 @@ pub use distances::bounds_of_a_plan_are_fit_for_distances;
 pub use faults::{
     a_fault_excludes_a_checked_plan, a_negative_cycle_has_no_schedule, faults_are_of_one_number,
 };
-pub use runs::{each_point_is_executed_once, some_schedule_fits};
-pub use samples::{
-    the_camera_plan_has_a_schedule, the_camera_run_has_its_state, the_smallest_plan_has_a_schedule,
-};
+pub use samples::{the_camera_plan_has_a_schedule, the_smallest_plan_has_a_schedule};
 pub use schedules::{
     a_tight_weight_is_the_only_one, further_bounds_keep_fewer_schedules, implied_bounds_compose,
     implied_distances_are_tight, lists_and_functions_are_one_claim, schedules_restrict,

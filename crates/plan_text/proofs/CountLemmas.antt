@@ -10,7 +10,7 @@ use Rattle.std.specs.List.{list_any}
 use Rattle.std.specs.Str.{bytes_eq}
 use Rattle.hs_base.specs.declared.mission.Mission.{Mission}
 use Rattle.hs_base.specs.declared.mission.Var.{Var}
-use Rattle.hs_base.specs.Pieces.{Piece, word, number as digits, symbol, number_of}
+use Rattle.hs_texts.specs.Pieces.{Piece, word, number as digits, symbol, number_of}
 use Rattle.text_laws.specs.Parsers.{done, stuck, number}
 use Rattle.plan_text.specs.declared.stop.Stop.{Stop}
 use Rattle.plan_text.specs.declared.stop.Stop.TheVariants.{Text, Pieces, Memory}

@@ -1,8 +1,8 @@
 -- The turns of a loop that reads items at which the text may break off.
 use Rattle.std.proofs.Common.{◌≡◌, ℕ, Bool, true, false, List, [], ◌∷◌, ◌++◌, refl, sym, ap, ◌∙◌, append_assoc, append-nil}
 use Rattle.std.specs.Prelude.{Option, Err}
-use Rattle.hs_base.specs.Pieces.{Piece as Spelling}
-use Rattle.hs_base.specs.Languages.{Language}
+use Rattle.hs_texts.specs.Pieces.{Piece as Spelling}
+use Rattle.hs_texts.specs.Languages.{Language}
 use Rattle.text_laws.specs.Parsers.{Read, done, stuck, Parser, next}
 use Rattle.plan_text.specs.Kept.{Kept, kept, broken}
 use Rattle.plan_text.specs.PlanReading.{series}

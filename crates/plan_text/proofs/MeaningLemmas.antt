@@ -13,9 +13,9 @@ use Rattle.hs_base.specs.declared.plan.Support.{Support}
 use Rattle.hs_base.specs.declared.plan.Time.{Time}
 use Rattle.hs_base.specs.declared.plan.TokenRef.{TokenRef}
 use Rattle.hs_base.specs.Points.{ending, place_of, points_of}
-use Rattle.hs_base.specs.MissionMeaning.{IsNumberOf}
-use Rattle.hs_base.specs.MissionRefusals.{unknown_in}
-use Rattle.hs_base.specs.PlanSpelling.{names_of}
+use Rattle.hs_texts.specs.MissionMeaning.{IsNumberOf}
+use Rattle.hs_texts.specs.MissionRefusals.{unknown_in}
+use Rattle.hs_texts.specs.PlanSpelling.{names_of}
 use Rattle.plan_text.specs.declared.written.WrittenPoint.{WrittenPoint}
 use Rattle.plan_text.specs.declared.written.WrittenPoint.TheVariants.{Origin, Horizon, End}
 use Rattle.plan_text.specs.declared.written.WrittenToken.{WrittenToken}

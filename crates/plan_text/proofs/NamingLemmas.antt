@@ -10,12 +10,12 @@ use Rattle.std.proofs.lemmas.Grind.{flat_map-append}
 use Rattle.hs_base.specs.declared.mission.Mission.{Mission}
 use Rattle.hs_base.specs.declared.mission.Value.{Value}
 use Rattle.hs_base.specs.declared.mission.Var.{Var}
-use Rattle.hs_base.specs.declared.refusal.Refusal.{Refusal}
-use Rattle.hs_base.specs.declared.refusal.Refusal.TheVariants.{NotUtf8, Char, Expected, Number, Trailing, Twice, Unknown, Range, Limit, NoBegin, Horizons, SameVar, SameBy, Memory}
-use Rattle.hs_base.specs.MissionMeaning.{IsNumberOf}
-use Rattle.hs_base.specs.MissionRefusals.{unknown_in}
+use Rattle.hs_texts.specs.declared.refusal.Refusal.{Refusal}
+use Rattle.hs_texts.specs.declared.refusal.Refusal.TheVariants.{NotUtf8, Char, Expected, Number, Trailing, Twice, Unknown, Range, Limit, NoBegin, Horizons, SameVar, SameBy, Memory}
+use Rattle.hs_texts.specs.MissionMeaning.{IsNumberOf}
+use Rattle.hs_texts.specs.MissionRefusals.{unknown_in}
 use Rattle.text_laws.specs.Refused.{OrMemory}
-use Rattle.hs_base.specs.PlanSpelling.{names_of}
+use Rattle.hs_texts.specs.PlanSpelling.{names_of}
 use Rattle.plan_text.specs.declared.written.WrittenKind.{WrittenKind}
 use Rattle.plan_text.specs.PlanSpelling.{KindMeans, unknown_in_kind, IsFirstUnknown}
 use Rattle.plan_text.specs.SoFar.{variable_at, value_at}

@@ -2,8 +2,8 @@
 use Rattle.std.proofs.Common.{◌≡◌, ℕ, ◌+◌, List, [], length, take, drop, refl, sym, ap, ◌∙◌, subst, append-nil, inl, inr, arith, length-drop}
 use Rattle.std.proofs.lemmas.Bool.{cases_lt}
 use Rattle.std.proofs.lemmas.List.{take-append-drop}
-use Rattle.hs_base.specs.Pieces.{Piece}
-use Rattle.hs_base.specs.Languages.{Language, IsExpected, IsTrailing}
+use Rattle.hs_texts.specs.Pieces.{Piece}
+use Rattle.hs_texts.specs.Languages.{Language, IsExpected, IsTrailing}
 use Rattle.text_laws.specs.Parsers.{Parser, done, next}
 use Rattle.text_laws.specs.Reads.{Reads}
 use Rattle.text_laws.proofs.ListLemmas.{avoids_none, same_rest}

@@ -1,8 +1,8 @@
 -- The laws of going on behind what may break off.
 use Rattle.std.proofs.Common.{◌≡◌, ℕ, List, [], ◌∷◌, ◌++◌, refl, sym, ap, ◌∙◌, subst, append_assoc, append-nil, inl, inr}
 use Rattle.std.specs.Prelude.{Option}
-use Rattle.hs_base.specs.Pieces.{Piece}
-use Rattle.hs_base.specs.Languages.{Language, Then}
+use Rattle.hs_texts.specs.Pieces.{Piece}
+use Rattle.hs_texts.specs.Languages.{Language, Then}
 use Rattle.text_laws.specs.Parsers.{done, stuck, Parser, next, go_on, ◌>>=◌}
 use Rattle.text_laws.specs.Reads.{Avoids, HasRead, IsStuck, Lives, Reads, Leads}
 use Rattle.text_laws.proofs.ListLemmas.{split_at, next_same, went_on, got_stuck, same_value, same_rest, not_both, avoids_none}

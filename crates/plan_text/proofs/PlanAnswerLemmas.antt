@@ -2,9 +2,9 @@
 use Rattle.std.proofs.Common.{◌≡◌, ℕ, List, [], ◌∷◌, drop, length, sym, ap, ◌∙◌, subst}
 use Rattle.hs_base.specs.declared.mission.Mission.{Mission}
 use Rattle.hs_base.specs.declared.plan.Extension.{Extension}
-use Rattle.hs_base.specs.declared.refusal.Refusal.{Refusal}
-use Rattle.hs_base.specs.declared.refusal.Refusal.TheVariants.{NotUtf8, Char, Expected, Number, Trailing, Twice, Unknown, Range, Limit, NoBegin, Horizons, SameVar, SameBy, Memory}
-use Rattle.hs_base.specs.Pieces.{Placed, pieces_of, place_in}
+use Rattle.hs_texts.specs.declared.refusal.Refusal.{Refusal}
+use Rattle.hs_texts.specs.declared.refusal.Refusal.TheVariants.{NotUtf8, Char, Expected, Number, Trailing, Twice, Unknown, Range, Limit, NoBegin, Horizons, SameVar, SameBy, Memory}
+use Rattle.hs_texts.specs.Pieces.{Placed, pieces_of, place_in}
 use Rattle.text_laws.proofs.PieceLemmas.{cut_one}
 use Rattle.text_laws.proofs.AnswerLemmas.{sentence_one}
 use Rattle.plan_text.specs.declared.written.WrittenExtension.{WrittenExtension}

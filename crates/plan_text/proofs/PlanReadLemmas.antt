@@ -5,10 +5,10 @@ use Rattle.std.specs.List.{list_any}
 use Prim.Native.String.{String}
 use Rattle.hs_base.specs.declared.mission.Mission.{Mission}
 use Rattle.hs_base.specs.Names.{is_name}
-use Rattle.hs_base.specs.Pieces.{Piece, word, number as digits, symbol}
-use Rattle.hs_base.specs.Languages.{Language, Yields, Then, ◌∣◌, Many, Keyword, Number, After}
-use Rattle.hs_base.specs.MissionText.{name_says}
-use Rattle.hs_base.specs.WrittenPlan.{Name, count_says, Count}
+use Rattle.hs_texts.specs.Pieces.{Piece, word, number as digits, symbol}
+use Rattle.hs_texts.specs.Languages.{Language, Yields, Then, ◌∣◌, Many, Keyword, Number, After}
+use Rattle.hs_texts.specs.MissionText.{name_says}
+use Rattle.hs_texts.specs.WrittenPlan.{Name, count_says, Count}
 use Rattle.text_laws.specs.Parsers.{Parser, next, ◌>>=◌, yields, is_word, choose, many, keyword, number, after}
 use Rattle.text_laws.specs.Reads.{Avoids, Reads, Leads, BeginsWith}
 use Rattle.text_laws.specs.MissionReading.{name_at}

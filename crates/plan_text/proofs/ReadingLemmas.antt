@@ -2,7 +2,7 @@
 use Rattle.std.proofs.Common.{◌≡◌, ℕ, zero, suc, drop, ◌+◌, ◌-◌, ◌<◌, ◌≤◌, List, [], ◌∷◌, length, map, refl, sym, ap, ◌∙◌, subst, inl, inr, length-append, length-drop, arith}
 use Rattle.std.proofs.lemmas.List.{length-map}
 use Rattle.hs_base.specs.declared.mission.Mission.{Mission}
-use Rattle.hs_base.specs.Pieces.{Piece as Spelling, Placed, pieces_of, place_in}
+use Rattle.hs_texts.specs.Pieces.{Piece as Spelling, Placed, pieces_of, place_in}
 use Rattle.text_laws.specs.Parsers.{done, stuck}
 use Rattle.text_laws.proofs.AnswerLemmas.{read_front_spells, read_whole_spells, stuck_is_expected, done_left, stuck_left}
 use Rattle.ddl_read.specs.declared.piece.Piece.{Piece}

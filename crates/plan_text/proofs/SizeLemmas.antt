@@ -2,8 +2,8 @@
 use Rattle.std.proofs.Common.{◌≡◌, ℕ, ◌+◌, ◌-◌, ◌≤◌, ℤ, List, [], ◌∷◌, ◌++◌, length, Bool, true, false, cond, ap, length-append, inl, inr, nat_eq, arith}
 use Rattle.std.specs.Prelude.{fold}
 use Rattle.hs_base.specs.declared.mission.Mission.{Mission}
-use Rattle.hs_base.specs.Pieces.{Piece}
-use Rattle.hs_base.specs.Languages.{Language, Yields, Then, Many, Keyword, Number}
+use Rattle.hs_texts.specs.Pieces.{Piece}
+use Rattle.hs_texts.specs.Languages.{Language, Yields, Then, Many, Keyword, Number}
 use Rattle.plan_text.specs.declared.written.WrittenPoint.{WrittenPoint}
 use Rattle.plan_text.specs.declared.written.WrittenPoint.TheVariants.{Origin}
 use Rattle.plan_text.specs.declared.written.WrittenTime.{WrittenTime}

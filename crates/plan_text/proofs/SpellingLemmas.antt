@@ -10,12 +10,12 @@ use Rattle.hs_base.specs.declared.plan.Support.{Support}
 use Rattle.hs_base.specs.declared.plan.Time.{Time}
 use Rattle.hs_base.specs.declared.plan.TokenRef.{TokenRef}
 use Rattle.hs_base.specs.declared.limits.TheConstants.{TEXT_BYTES}
-use Rattle.hs_base.specs.PlanText.{plan_text}
-use Rattle.hs_base.specs.Pieces.{Piece, word, number, symbol, number_of, pieces_of}
-use Rattle.hs_base.specs.Languages.{Language, Yields, Then, Many}
-use Rattle.hs_base.specs.WrittenPlan.{Numeral, NextOf, at_origin, at_horizon, at_end, WrittenPoint as BasePoint, WrittenToken as BaseToken, WrittenFix, WrittenKind as BaseKind, WrittenSupport as BaseSupport, WrittenBody as BaseBody, WrittenExtension as BaseExtension, PointText as BasePointText, TokenText as BaseTokenText, FixText as BaseFixText, NewTokenText as BaseNewTokenText, SupportText as BaseSupportText, GoalText as BaseGoalText, GoalsText, BodyText as BaseBodyText, ExtensionText as BaseExtensionText, PlanText as BasePlanText}
-use Rattle.hs_base.specs.WrittenRules.{Reached, reached_with, break_unless, fix_breaks, fix_size, body_size, body_breaks, extension_breaks, plan_breaks, point_size as base_size, may_be_fixed as base_may_be_fixed}
-use Rattle.hs_base.specs.PlanSpelling.{TokenMeans as BaseTokenMeans, NewTokenMeans, PointMeans as BasePointMeans, FixMeans, SupportMeans as BaseSupportMeans, BodyMeans, ExtensionsMean as BaseExtensionsMean, PlanSpells as BasePlanSpells}
+use Rattle.hs_texts.specs.PlanText.{plan_text}
+use Rattle.hs_texts.specs.Pieces.{Piece, word, number, symbol, number_of, pieces_of}
+use Rattle.hs_texts.specs.Languages.{Language, Yields, Then, Many}
+use Rattle.hs_texts.specs.WrittenPlan.{Numeral, NextOf, at_origin, at_horizon, at_end, WrittenPoint as BasePoint, WrittenToken as BaseToken, WrittenFix, WrittenKind as BaseKind, WrittenSupport as BaseSupport, WrittenBody as BaseBody, WrittenExtension as BaseExtension, PointText as BasePointText, TokenText as BaseTokenText, FixText as BaseFixText, NewTokenText as BaseNewTokenText, SupportText as BaseSupportText, GoalText as BaseGoalText, GoalsText, BodyText as BaseBodyText, ExtensionText as BaseExtensionText, PlanText as BasePlanText}
+use Rattle.hs_texts.specs.WrittenRules.{Reached, reached_with, break_unless, fix_breaks, fix_size, body_size, body_breaks, extension_breaks, plan_breaks, point_size as base_size, may_be_fixed as base_may_be_fixed}
+use Rattle.hs_texts.specs.PlanSpelling.{TokenMeans as BaseTokenMeans, NewTokenMeans, PointMeans as BasePointMeans, FixMeans, SupportMeans as BaseSupportMeans, BodyMeans, ExtensionsMean as BaseExtensionsMean, PlanSpells as BasePlanSpells}
 use Rattle.text_laws.specs.WritablePlans.{IsWritablePlan}
 use Rattle.text_laws.proofs.PlanSpellingLemmas.{plan_spelled}
 use Rattle.plan_text.specs.declared.written.WrittenPoint.{WrittenPoint}

@@ -1,7 +1,7 @@
 -- Texts that break off where a rule is broken.
 use Rattle.std.specs.Prelude.{◌≡◌, ◌⊎◌, ℕ, ◌+◌, ◌<◌, ◌≤◌, List, [], ◌∷◌, ◌++◌, length, take, fold}
-use Rattle.hs_base.specs.Pieces.{Piece}
-use Rattle.hs_base.specs.Languages.{Language, Yields, IsExpected}
+use Rattle.hs_texts.specs.Pieces.{Piece}
+use Rattle.hs_texts.specs.Languages.{Language, Yields, IsExpected}
 
 -- a value, or the end of the text behind so many pieces that may not stand there
 pub data Kept (A : Type 0) : Type 0 where

@@ -1,6 +1,6 @@
 -- What the functions that look names up answer.
 use Rattle.std.specs.Prelude.{◌≡◌, ℕ, List, [], Result, Ok, Err}
-use Rattle.hs_base.specs.declared.refusal.Refusal.{Refusal}
+use Rattle.hs_texts.specs.declared.refusal.Refusal.{Refusal}
 use Rattle.text_laws.specs.Refused.{OrMemory}
 use Rattle.plan_text.specs.PlanSpelling.{IsFirstUnknown}
 

@@ -1,8 +1,8 @@
 -- Reading a plan from left to right, one definition a nonterminal.
 use Rattle.std.specs.Prelude.{ℕ, zero, suc, ◌+◌, ◌-◌, nat_eq, ℤ, Bool, cond, List, [], ◌∷◌, ◌++◌, length, Option, codes}
 use Rattle.hs_base.specs.declared.mission.Mission.{Mission}
-use Rattle.hs_base.specs.Pieces.{Piece}
-use Rattle.hs_base.specs.WrittenPlan.{count_says}
+use Rattle.hs_texts.specs.Pieces.{Piece}
+use Rattle.hs_texts.specs.WrittenPlan.{count_says}
 use Rattle.text_laws.specs.Parsers.{done, Parser, next, go_on, ◌>>=◌, yields, one, is_word, choose, many, keyword, number, after}
 use Rattle.text_laws.specs.MissionReading.{name_at}
 use Rattle.plan_text.specs.declared.written.WrittenPoint.{WrittenPoint}

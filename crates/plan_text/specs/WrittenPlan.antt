@@ -4,8 +4,8 @@ use Rattle.std.specs.List.{list_any}
 use Rattle.std.specs.Str.{bytes_eq}
 use Rattle.hs_base.specs.declared.mission.Mission.{Mission}
 use Rattle.hs_base.specs.declared.mission.Var.{Var}
-use Rattle.hs_base.specs.Languages.{Language, Yields, ◌>>=◌, ◌∣◌, Many, Keyword, Number, After}
-use Rattle.hs_base.specs.WrittenPlan.{Name, Count}
+use Rattle.hs_texts.specs.Languages.{Language, Yields, ◌>>=◌, ◌∣◌, Many, Keyword, Number, After}
+use Rattle.hs_texts.specs.WrittenPlan.{Name, Count}
 use Rattle.plan_text.specs.declared.written.WrittenPoint.{WrittenPoint}
 use Rattle.plan_text.specs.declared.written.WrittenPoint.TheVariants.{Origin, Horizon, End}
 use Rattle.plan_text.specs.declared.written.WrittenToken.{WrittenToken}

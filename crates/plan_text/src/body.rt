@@ -1,9 +1,10 @@
 ghost use Rattle.std.specs.Prelude.{◌≡◌, ◌++◌, OnOk, flat_map};
-ghost use Rattle.hs_base.specs.Written.{fix_line, token_line, support_line, goal_line, goal_lines, body_in};
+ghost use Rattle.hs_texts.specs.Written.{fix_line, token_line, support_line, goal_line, goal_lines, body_in};
 
 use crate::PointNames;
 use crate::parts::{push_number, push_point, push_signed, push_token, push_value, push_variable};
-use hs_base::{Extension, Kind, Memory, Mission, Support, Text, Time, TokenRef};
+use hs_base::{Extension, Kind, Memory, Mission, Support, Time, TokenRef};
+use hs_texts::Text;
 
 fn push_fix(
     text: &mut Text,

@@ -3,9 +3,9 @@ ghost use Rattle.std.specs.Prelude.{◌≡◌, ℕ, ◌≤◌, List, [], length}
 ghost use Rattle.hs_base.specs.declared.limits.TheConstants.{TEXT_BYTES};
 ghost use Rattle.hs_base.specs.declared.mission.Mission.{Mission};
 ghost use Rattle.hs_base.specs.declared.plan.Extension.{Extension};
-ghost use Rattle.hs_base.specs.declared.refusal.Refusal.{Refusal};
+ghost use Rattle.hs_texts.specs.declared.refusal.Refusal.{Refusal};
 ghost use Rattle.hs_base.specs.Checked.{Checked};
-ghost use Rattle.hs_base.specs.PlanText.{plan_text};
+ghost use Rattle.hs_texts.specs.PlanText.{plan_text};
 ghost use Rattle.text_laws.specs.Reads.{Reads};
 ghost use Rattle.text_laws.specs.WritablePlans.{IsWritablePlan};
 ghost use Rattle.plan_text.specs.WrittenPlan.{PlanText};

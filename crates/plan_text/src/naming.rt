@@ -2,9 +2,9 @@ ghost use Rattle.std.specs.Prelude.{◌≡◌, List, [], flat_map, length, IfOk}
 ghost use Rattle.std.specs.List.{AllZip};
 ghost use Rattle.hs_base.specs.declared.plan.Extension.{Extension};
 ghost use Rattle.hs_base.specs.Points.{points_of};
-ghost use Rattle.hs_base.specs.MissionMeaning.{IsNumberOf};
-ghost use Rattle.hs_base.specs.MissionRefusals.{unknown_in};
-ghost use Rattle.hs_base.specs.PlanSpelling.{names_of};
+ghost use Rattle.hs_texts.specs.MissionMeaning.{IsNumberOf};
+ghost use Rattle.hs_texts.specs.MissionRefusals.{unknown_in};
+ghost use Rattle.hs_texts.specs.PlanSpelling.{names_of};
 ghost use Rattle.plan_text.specs.PlanSpelling.{TokenMeans, KindMeans, PointMeans, TimeMeans, SupportMeans, ExtensionMeans, ExtensionsMean, unknown_in_point, unknown_in_time, unknown_in_kind, unknown_in_token, unknown_in_support, unknown_in_body, unknown_in_plan};
 ghost use Rattle.plan_text.specs.SoFar.{value_at as value_at_spec};
 ghost use Rattle.plan_text.specs.Numbers.{AreNumbers};
@@ -15,10 +15,8 @@ use crate::written::{
     WrittenExtension, WrittenKind, WrittenPoint, WrittenSupport, WrittenTime, WrittenToken,
 };
 use crate::written_plan::variable_at;
-use hs_base::{
-    Copies, Extension, Kind, List, Memory, Mission, Name, Plan, PointId, Refusal, Support, SvId,
-    Time, TokenRef, ValId, Value,
-};
+use hs_base::{Copies, Extension, Kind, List, Memory, Mission, Name, Plan, PointId, Support, SvId, Time, TokenRef, ValId, Value};
+use hs_texts::Refusal;
 use std::alloc::Global;
 
 /// Where the first value of this name stands.

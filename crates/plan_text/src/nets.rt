@@ -1,10 +1,11 @@
 ghost use Rattle.std.specs.Prelude.{◌≡◌, ◌++◌, ◌^◌, ◌<◌, IfOk, OnOk, flat_map};
 ghost use Rattle.hs_base.specs.Points.{count};
-ghost use Rattle.hs_base.specs.NetText.{counts_text, member_line, group_lines, edge_line, net_text};
+ghost use Rattle.hs_texts.specs.NetText.{counts_text, member_line, group_lines, edge_line, net_text};
 
 use crate::PointNames;
 use crate::parts::{push_number, push_point, push_signed};
-use hs_base::{Bound, Group, Member, Memory, Mission, Net, Plan, Text};
+use hs_base::{Bound, Group, Member, Memory, Mission, Net, Plan};
+use hs_texts::Text;
 use std::alloc::Global;
 
 /// Puts the numbers of groups and edges at the end, as `groups 7 edges 14`.

@@ -1,10 +1,11 @@
 ghost use Rattle.std.specs.Prelude.{◌≡◌, ◌+◌, ◌^◌, ◌<◌, ◌++◌, length, OnOk};
 ghost use Rattle.std.specs.Fmt.{decimal, signed_decimal};
-ghost use Rattle.hs_base.specs.Written.{variable_name, value_name, spelled_point, point_in, token_text, bound_in};
+ghost use Rattle.hs_texts.specs.Written.{variable_name, value_name, spelled_point, point_in, token_text, bound_in};
 ghost use Rattle.plan_text.specs.Named.{named, with_extension};
 
 use crate::{PointName, PointNames};
-use hs_base::{Bound, Extension, Kind, Memory, Mission, PointId, SvId, Text, TokenRef};
+use hs_base::{Bound, Extension, Kind, Memory, Mission, PointId, SvId, TokenRef};
+use hs_texts::Text;
 
 /// Puts a number at the end, by its decimal digits.
 pub fn push_number(text: &mut Text, number: u64) -> Result<(), Memory>

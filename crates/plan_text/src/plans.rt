@@ -1,15 +1,16 @@
 ghost use Rattle.std.specs.Prelude.{◌≡◌, ◌++◌, ◌^◌, ◌<◌, ◌≤◌, length, IfOk, OnOk};
 ghost use Rattle.hs_base.specs.declared.limits.TheConstants.{TEXT_BYTES};
 ghost use Rattle.hs_base.specs.Points.{count};
-ghost use Rattle.hs_base.specs.PlanText.{extension_in, plan_text};
-ghost use Rattle.hs_base.specs.Written.{point_text as text_of_point};
+ghost use Rattle.hs_texts.specs.PlanText.{extension_in, plan_text};
+ghost use Rattle.hs_texts.specs.Written.{point_text as text_of_point};
 ghost use Rattle.text_laws.specs.WritablePlans.{IsWritablePlan};
 ghost use Rattle.plan_text.specs.PlanSpelling.{PlanSpells};
 
 use crate::PointNames;
 use crate::body::push_body;
 use crate::parts::{push_number, push_point};
-use hs_base::{Extension, Memory, Mission, Plan, PointId, Text};
+use hs_base::{Extension, Memory, Mission, Plan, PointId};
+use hs_texts::Text;
 use std::alloc::Global;
 
 fn push_extension(

@@ -5,7 +5,8 @@ ghost use Rattle.plan_text.specs.PlanSpelling.{PlanSpells, IsPlanRefusal};
 use crate::naming::plan_of;
 use crate::reading::read_written;
 use ddl_read::Pieces;
-use hs_base::{Mission, Plan, Refusal};
+use hs_base::{Mission, Plan};
+use hs_texts::Refusal;
 use std::alloc::Global;
 
 /// Reads a plan's text from the piece of number `from` to the end. Refusals are the first piece

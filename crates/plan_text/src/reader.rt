@@ -1,5 +1,5 @@
 ghost use Rattle.std.specs.Prelude.{◌≡◌, pos, length, codes, IfOk};
-ghost use Rattle.hs_base.specs.Languages.{word_says};
+ghost use Rattle.hs_texts.specs.Languages.{word_says};
 ghost use Rattle.text_laws.specs.Parsers.{next, one, is_word, many, number};
 ghost use Rattle.text_laws.specs.MissionReading.{name_at};
 ghost use Rattle.plan_text.specs.PlanReading.{count_at, exactly_at, one_more_at, token_at, horizon_point_at, end_point_at, point_at, new_token_at, support_at};
@@ -20,7 +20,7 @@ pub struct PlanReader<'a> {
 
 impl<'a> Model for PlanReader<'a> {
     ghost use Rattle.std.specs.Prelude.{List};
-    ghost use Rattle.hs_base.specs.Pieces.{Piece as Spelling};
+    ghost use Rattle.hs_texts.specs.Pieces.{Piece as Spelling};
 
     ghost Value = { List Spelling };
 

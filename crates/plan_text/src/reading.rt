@@ -1,5 +1,5 @@
 ghost use Rattle.std.specs.Prelude.{◌≡◌, ◌-◌, ◌≤◌, ◌<◌, ◌^◌, length, map, MatchResult};
-ghost use Rattle.hs_base.specs.Pieces.{place_in};
+ghost use Rattle.hs_texts.specs.Pieces.{place_in};
 ghost use Rattle.text_laws.specs.Refused.{OrMemory};
 ghost use Rattle.ddl_read.specs.Spelled.{placed};
 ghost use Rattle.plan_text.specs.PlanSpelling.{IsPlanText, IsTextRefusal};
@@ -8,7 +8,8 @@ use crate::reader::PlanReader;
 use crate::stop::Stop;
 use crate::written::WrittenExtension;
 use ddl_read::Pieces;
-use hs_base::{List, Mission, Refusal};
+use hs_base::{List, Mission};
+use hs_texts::Refusal;
 use std::alloc::Global;
 
 /// The place of the piece before the last `left` of so many pieces.

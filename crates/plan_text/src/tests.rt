@@ -3,10 +3,8 @@ ghost use Rattle.hs_base.specs.Points.{count};
 
 use crate::{point_text, read, write, write_net};
 use ddl_read::Pieces;
-use hs_base::{
-    Bound, Extension, Group, Kind, LAST, List, Member, Memory, Mission, Name, Net, Plan, PointId,
-    Range, Refusal, Same, Support, SvId, Time, TokenRef, ValId, Value, Var,
-};
+use hs_base::{Bound, Extension, Group, Kind, LAST, List, Member, Memory, Mission, Name, Net, Plan, PointId, Range, Same, Support, SvId, Time, TokenRef, ValId, Value, Var};
+use hs_texts::Refusal;
 use std::alloc::Global;
 use std::test::Fail;
 

@@ -5,10 +5,7 @@ ghost use Rattle.hs_base.specs.Ranges.{range};
 ghost use Rattle.base_laws.specs.Samples.{camera, camera_extension, device_value, kind, plain_value, token, value_id};
 
 use base_laws::the_camera_mission_is_one;
-use hs_base::{
-    Choice, Extension, Goal, Horizon, Kind, LAST, List, Memory, Mission, Name, Need, Range,
-    Relation, Said, Step, Support, SvId, TokenRef, ValId, Value, Var, WordId,
-};
+use hs_base::{Choice, Extension, Goal, Horizon, Kind, LAST, List, Memory, Mission, Name, Need, Range, Relation, Said, Step, Support, SvId, TokenRef, ValId, Value, Var, WordId};
 use std::alloc::Global;
 
 const WHOLE: Range = Range { low: 0, high: LAST };

@@ -1,7 +1,7 @@
 -- What is known where a search begins: the plan that is to be extended, and what was executed since.
 use Rattle.std.specs.Prelude.{List, [], length, suc, ℕ, ℤ, ◌++◌, ◌∷◌}
 use Rattle.hs_base.specs.Points.{hor}
-use Rattle.hs_base.specs.Views.{Snapshot}
+use Rattle.hs_base.specs.Snapshots.{Snapshot}
 use Rattle.hs_base.specs.declared.plan.Extension.{Extension}
 use Rattle.hs_base.specs.declared.plan.Time.{Time}
 

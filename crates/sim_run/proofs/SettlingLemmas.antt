@@ -5,13 +5,13 @@ use Rattle.std.proofs.lemmas.Bool.{OnTrue_at, OnFalse_at, cases_lt}
 use Rattle.hs_base.specs.declared.ids.PointId.{PointId}
 use Rattle.hs_base.specs.declared.mission.Mission.{Mission}
 use Rattle.hs_base.specs.declared.plan.Extension.{Extension}
-use Rattle.hs_base.specs.declared.history.Entry.{Entry}
-use Rattle.hs_base.specs.declared.history.Phase.TheVariants.{Ended}
+use Rattle.hs_machine.specs.declared.history.Entry.{Entry}
+use Rattle.hs_machine.specs.declared.history.Phase.TheVariants.{Ended}
 use Rattle.hs_base.specs.Checked.{Checked}
 use Rattle.hs_base.specs.Points.{count}
-use Rattle.hs_base.specs.State.{plan_of, phase_of}
-use Rattle.hs_base.specs.Eager.{NoneMayFire}
-use Rattle.hs_base.specs.Machine.{tick, fire, handover, done, Replies, HandoverReply, IsNext, Turn}
+use Rattle.hs_machine.specs.State.{plan_of, phase_of}
+use Rattle.hs_machine.specs.Eager.{NoneMayFire}
+use Rattle.hs_machine.specs.Machine.{tick, fire, handover, done, Replies, HandoverReply, IsNext, Turn}
 use Rattle.plan_check.specs.Planned.{Planned}
 use Rattle.exec_core.specs.Recorded.{Recorded}
 use Rattle.exec_core.specs.Replies.{reply_of}

@@ -1,7 +1,7 @@
 -- What a part of a run does to an executive in flight.
 use Rattle.std.specs.Prelude.{◌≡◌, ℕ, ◌<◌, ◌≤◌}
 use Rattle.hs_base.specs.Points.{count}
-use Rattle.hs_base.specs.State.{plan_of}
+use Rattle.hs_machine.specs.State.{plan_of}
 use Rattle.plan_check.specs.Planned.{Planned}
 use Rattle.exec_core.specs.Recorded.{Recorded}
 use Rattle.flight_laws.specs.Flights.{steps_left, IsFlying}

@@ -1,9 +1,9 @@
 ghost use Rattle.std.specs.Prelude.{◌≡◌, ◌+◌, ◌<◌, ◌^◌, length, IfOk};
 ghost use Rattle.std.specs.Bool.{OnTrue, OnFalse};
-ghost use Rattle.hs_base.specs.declared.history.Phase.TheVariants.{Ended};
-ghost use Rattle.hs_base.specs.State.{count_at, phase_of};
-ghost use Rattle.hs_base.specs.Eager.{NoneMayFire};
-ghost use Rattle.hs_base.specs.Machine.{fire, done, Replies};
+ghost use Rattle.hs_machine.specs.declared.history.Phase.TheVariants.{Ended};
+ghost use Rattle.hs_machine.specs.State.{count_at, phase_of};
+ghost use Rattle.hs_machine.specs.Eager.{NoneMayFire};
+ghost use Rattle.hs_machine.specs.Machine.{fire, done, Replies};
 ghost use Rattle.flight_laws.specs.Flights.{HasNoDevices, IsFlight, EndsByFiring, AreStill, mark_of};
 ghost use Rattle.sim_run.specs.Settling.{Flies, IsLaunched, GoesOn, GoesFurther};
 

@@ -5,10 +5,8 @@ ghost use Rattle.base_laws.specs.Samples.{smallest, plain_value};
 
 use super::*;
 use base_laws::the_smallest_mission_is_one;
-use hs_base::{
-    Deed, Entry, Extension, Fault, Horizon, Kind, LAST, List, Memory, Mission, Name, PointId,
-    Range, SvId, ValId, Value, Var,
-};
+use hs_base::{Extension, Fault, Horizon, Kind, LAST, List, Memory, Mission, Name, PointId, Range, SvId, ValId, Value, Var};
+use hs_machine::{Deed, Entry};
 use plan_check::{CheckedPlan, check};
 use std::alloc::Global;
 use std::test::Fail;

@@ -3,8 +3,8 @@ use Rattle.std.proofs.Common.{◌≡◌, ℕ, zero, suc, ◌+◌, ◌<◌, ◌�
 use Rattle.std.proofs.lemmas.Bool.{cases_lt}
 use Rattle.std.proofs.Math.Seq.{take-append_seam, take-append-add}
 use Rattle.std.proofs.lemmas.List.{take-append-drop, take-take}
-use Rattle.hs_base.specs.Pieces.{Piece}
-use Rattle.hs_base.specs.Languages.{Language, BeginsSentence, IsExpected, IsTrailing}
+use Rattle.hs_texts.specs.Pieces.{Piece}
+use Rattle.hs_texts.specs.Languages.{Language, BeginsSentence, IsExpected, IsTrailing}
 use Rattle.text_laws.specs.Parsers.{done, stuck, Parser, next}
 use Rattle.text_laws.specs.Reads.{IsStuck, Reads}
 use Rattle.text_laws.proofs.ListLemmas.{avoids_none, not_both, same_value, same_rest}

@@ -1,8 +1,8 @@
 -- The laws of reading the one or the other.
 use Rattle.std.proofs.Common.{◌≡◌, List, [], ◌∷◌, ◌++◌, Bool, true, false, cond, refl, sym, ap, ◌∙◌, subst, append-nil, inl, inr}
 use Rattle.std.specs.Prelude.{Option, Some, None}
-use Rattle.hs_base.specs.Pieces.{Piece}
-use Rattle.hs_base.specs.Languages.{Language, ◌∣◌}
+use Rattle.hs_texts.specs.Pieces.{Piece}
+use Rattle.hs_texts.specs.Languages.{Language, ◌∣◌}
 use Rattle.text_laws.specs.Parsers.{done, stuck, Parser, next, choose}
 use Rattle.text_laws.specs.Reads.{Avoids, Reads, Leads, Finds, BeginsWith}
 use Rattle.text_laws.proofs.ListLemmas.{next_same, chosen}

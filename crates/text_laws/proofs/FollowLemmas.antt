@@ -7,8 +7,8 @@ use Rattle.std.proofs.lemmas.Slice.Eq.{bytes_eq-Decides}
 use Rattle.std.proofs.lemmas.Bool.{and_parts}
 use Rattle.std.proofs.lemmas.Bool.Decides.{nat_tests}
 use Prim.Native.String.{String}
-use Rattle.hs_base.specs.Pieces.{Piece, word, number as digits, symbol}
-use Rattle.hs_base.specs.Languages.{Language, Yields, Then, ◌∣◌, Maybe, Many, Several, Keyword, Sign, Number, After, Behind, Apart, word_says, symbol_says, number_says}
+use Rattle.hs_texts.specs.Pieces.{Piece, word, number as digits, symbol}
+use Rattle.hs_texts.specs.Languages.{Language, Yields, Then, ◌∣◌, Maybe, Many, Several, Keyword, Sign, Number, After, Behind, Apart, word_says, symbol_says, number_says}
 use Rattle.text_laws.specs.Parsers.{Parser, next, ◌>>=◌, yields, many, is_word, is_sign, keyword, sign, number, after, behind, maybe_after, several, apart}
 use Rattle.text_laws.specs.Reads.{Avoids, Reads, Leads, Finds, BeginsWith}
 use Rattle.text_laws.proofs.ParserLemmas.{one_reads, yields_reads}

@@ -2,12 +2,12 @@
 use Rattle.std.proofs.Common.{◌≡◌, ℕ, List, length, take, drop, refl, sym, ap, ◌∙◌, subst, inl, inr, arith, length-drop}
 use Rattle.std.proofs.lemmas.Bool.{cases_lt}
 use Rattle.std.proofs.lemmas.List.{take-append-drop, length-map}
-use Rattle.hs_base.specs.declared.ast.Ast.{Ast}
-use Rattle.hs_base.specs.declared.refusal.Refusal.{Refusal}
-use Rattle.hs_base.specs.declared.refusal.Refusal.TheVariants.{NotUtf8, Char, Expected, Number, Trailing, Twice, Unknown, Range, Limit, NoBegin, Horizons, SameVar, SameBy, Memory}
-use Rattle.hs_base.specs.Pieces.{Piece, Placed, pieces_of, place_in}
-use Rattle.hs_base.specs.MissionText.{MissionText}
-use Rattle.hs_base.specs.MissionSpelling.{SpellsFront, IsTrailingIn, IsFrontRefusal, IsReadRefusal, Spells}
+use Rattle.hs_texts.specs.declared.ast.Ast.{Ast}
+use Rattle.hs_texts.specs.declared.refusal.Refusal.{Refusal}
+use Rattle.hs_texts.specs.declared.refusal.Refusal.TheVariants.{NotUtf8, Char, Expected, Number, Trailing, Twice, Unknown, Range, Limit, NoBegin, Horizons, SameVar, SameBy, Memory}
+use Rattle.hs_texts.specs.Pieces.{Piece, Placed, pieces_of, place_in}
+use Rattle.hs_texts.specs.MissionText.{MissionText}
+use Rattle.hs_texts.specs.MissionSpelling.{SpellsFront, IsTrailingIn, IsFrontRefusal, IsReadRefusal, Spells}
 use Rattle.text_laws.specs.Parsers.{done, next}
 use Rattle.text_laws.specs.MissionReading.{mission_at}
 use Rattle.text_laws.proofs.ListLemmas.{avoids_none, same_value, same_rest}

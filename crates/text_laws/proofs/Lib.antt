@@ -16,5 +16,3 @@ pub mod WritableLemmas
 pub mod PlanPrintedLemmas
 pub mod PlanMeaningLemmas
 pub mod PlanSpellingLemmas
-pub mod LogPrintedLemmas
-pub mod LogSpellingLemmas

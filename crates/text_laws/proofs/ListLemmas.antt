@@ -1,7 +1,7 @@
 -- Lists of pieces, what is next in them, and what a parser answers.
 use Rattle.std.proofs.Common.{◌≡◌, ◌⊎◌, List, [], ◌∷◌, ◌++◌, Bool, true, false, cond, refl, sym, ap, ◌∙◌, inl, inr}
 use Rattle.std.specs.Prelude.{Option, Some, None}
-use Rattle.hs_base.specs.Pieces.{Piece}
+use Rattle.hs_texts.specs.Pieces.{Piece}
 use Rattle.text_laws.specs.Parsers.{Read, done, stuck, Parser, next, go_on}
 use Rattle.text_laws.specs.Reads.{Avoids}
 

@@ -1,8 +1,8 @@
 -- The laws of reading items one after another.
 use Rattle.std.proofs.Common.{◌≡◌, ℕ, zero, suc, ◌<◌, ◌≤◌, List, [], ◌∷◌, ◌++◌, length, Bool, true, false, refl, sym, ap, ◌∙◌, subst, append_assoc, append-nil, length-append, inl, inr, arith}
 use Rattle.std.specs.Prelude.{Option, Some, None}
-use Rattle.hs_base.specs.Pieces.{Piece}
-use Rattle.hs_base.specs.Languages.{Language, Then, Many}
+use Rattle.hs_texts.specs.Pieces.{Piece}
+use Rattle.hs_texts.specs.Languages.{Language, Then, Many}
 use Rattle.text_laws.specs.Parsers.{Read, done, stuck, Parser, next, go_on, yields, items, many}
 use Rattle.text_laws.specs.Reads.{Avoids, HasRead, IsStuck, Reads, Leads, Finds, BeginsWith}
 use Rattle.text_laws.proofs.ListLemmas.{next_same, went_on, got_stuck, same_value, same_rest, stuck_rest, not_both}

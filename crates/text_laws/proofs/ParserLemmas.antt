@@ -1,8 +1,8 @@
 -- The laws of reading one piece, nothing, and one after the other.
 use Rattle.std.proofs.Common.{◌≡◌, List, [], ◌∷◌, ◌++◌, refl, sym, ap, subst}
 use Rattle.std.specs.Prelude.{Option, Some, None}
-use Rattle.hs_base.specs.Pieces.{Piece}
-use Rattle.hs_base.specs.Languages.{One, Yields}
+use Rattle.hs_texts.specs.Pieces.{Piece}
+use Rattle.hs_texts.specs.Languages.{One, Yields}
 use Rattle.text_laws.specs.Parsers.{done, stuck, yields, one, said}
 use Rattle.text_laws.specs.Reads.{HasRead, IsStuck, Lives, Reads}
 use Rattle.text_laws.proofs.ListLemmas.{same_value, same_rest, not_both}

@@ -3,7 +3,7 @@ use Rattle.std.proofs.Common.{◌≡◌, ℕ, Bool, true, false, List, [], ◌�
 use Rattle.std.proofs.lemmas.Bool.{and_parts, both_ways}
 use Rattle.std.proofs.lemmas.Bool.Decides.{nat_tests}
 use Rattle.std.specs.List.{list_all}
-use Rattle.hs_base.specs.Pieces.{Piece, word, number, symbol, begins, bytes_of, IsPiece, Placed, after_gap, Cuts, AreCut, is_letter, is_digit, is_symbol, is_word_byte, begins_no_piece, IsBadChar}
+use Rattle.hs_texts.specs.Pieces.{Piece, word, number, symbol, begins, bytes_of, IsPiece, Placed, after_gap, Cuts, AreCut, is_letter, is_digit, is_symbol, is_word_byte, begins_no_piece, IsBadChar}
 
 -- two longest runs at the front of the same bytes are the same
 longest_run : (test : ℕ → Bool) (xs ys a b : List ℕ) → list_all test xs ≡ true → list_all test ys ≡ true → begins test a ≡ false → begins test b ≡ false → xs ++ a ≡ ys ++ b → (xs ≡ ys) × (a ≡ b)

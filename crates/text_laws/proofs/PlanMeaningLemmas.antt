@@ -16,13 +16,13 @@ use Rattle.hs_base.specs.declared.plan.Support.{Support}
 use Rattle.hs_base.specs.declared.plan.Time.{Time}
 use Rattle.hs_base.specs.declared.plan.Extension.{Extension}
 use Rattle.hs_base.specs.Missions.{IsKindOf, IsMission, IsVar}
-use Rattle.hs_base.specs.MissionMeaning.{IsNumberOf}
+use Rattle.hs_texts.specs.MissionMeaning.{IsNumberOf}
 use Rattle.hs_base.specs.Walks.{EachAfter, join_after, AreDifferent}
 use Rattle.hs_base.specs.Points.{Point, origin, horizon, ending, same_point, count, points_of, new_points, tokens_of, timeline_of, refs_after}
-use Rattle.hs_base.specs.Written.{variable_name, value_name}
-use Rattle.hs_base.specs.WrittenPlan.{WrittenPoint, WrittenKind}
-use Rattle.hs_base.specs.WrittenRules.{has_point as has_point_test, Reached, reached_with, may_be_fixed, is_variable, fix_breaks, extension_breaks, fix_size, body_size}
-use Rattle.hs_base.specs.PlanSpelling.{names_of, TokenMeans, NewTokenMeans, PointMeans, FixMeans, SupportMeans, BodyMeans, ExtensionsMean}
+use Rattle.hs_texts.specs.Written.{variable_name, value_name}
+use Rattle.hs_texts.specs.WrittenPlan.{WrittenPoint, WrittenKind}
+use Rattle.hs_texts.specs.WrittenRules.{has_point as has_point_test, Reached, reached_with, may_be_fixed, is_variable, fix_breaks, extension_breaks, fix_size, body_size}
+use Rattle.hs_texts.specs.PlanSpelling.{names_of, TokenMeans, NewTokenMeans, PointMeans, FixMeans, SupportMeans, BodyMeans, ExtensionsMean}
 use Rattle.text_laws.specs.WritablePlans.{IsWritableToken, IsWritableSupport, written_token, written_point, written_at, written_fix, written_kind, written_support, written_body, written_extensions}
 use Rattle.base_laws.proofs.ListLemmas.{each_at, in_order}
 use Rattle.base_laws.proofs.PointLemmas.{named, tokens-push, place_within}

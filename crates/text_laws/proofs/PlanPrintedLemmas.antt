@@ -19,11 +19,11 @@ use Rattle.hs_base.specs.Missions.{IsKindOf, IsMission, IsVar, IsValue}
 use Rattle.hs_base.specs.Ranges.{whole, InRange}
 use Rattle.hs_base.specs.Walks.{EachAfter, join_after}
 use Rattle.hs_base.specs.Points.{Point, origin, horizon, ending, points_of, value_of}
-use Rattle.hs_base.specs.Pieces.{Piece, number_of}
-use Rattle.hs_base.specs.Languages.{Language, Yields, Then, Many, Keyword}
-use Rattle.hs_base.specs.Written.{variable_name, value_name, spelled_point, point_in, token_text, fix_line, token_line, support_line, goal_line, goal_lines, body_in}
-use Rattle.hs_base.specs.PlanText.{extension_text, plan_text}
-use Rattle.hs_base.specs.WrittenPlan.{at_origin, WrittenToken, Name, Count, count_says, Numeral, numeral_says, NextOf, next_says, PointText, TokenText, FixText, NewTokenText, SupportText, GoalText, GoalsText, BodyText, ExtensionText, PlanText}
+use Rattle.hs_texts.specs.Pieces.{Piece, number_of}
+use Rattle.hs_texts.specs.Languages.{Language, Yields, Then, Many, Keyword}
+use Rattle.hs_texts.specs.Written.{variable_name, value_name, spelled_point, point_in, token_text, fix_line, token_line, support_line, goal_line, goal_lines, body_in}
+use Rattle.hs_texts.specs.PlanText.{extension_text, plan_text}
+use Rattle.hs_texts.specs.WrittenPlan.{at_origin, WrittenToken, Name, Count, count_says, Numeral, numeral_says, NextOf, next_says, PointText, TokenText, FixText, NewTokenText, SupportText, GoalText, GoalsText, BodyText, ExtensionText, PlanText}
 use Rattle.text_laws.specs.Writes.{Writes}
 use Rattle.text_laws.specs.WritablePlans.{IsWritableToken, IsWritableSupport, written_token, written_point, written_at, written_fix, written_kind, written_support, written_body, written_extension, written_extensions}
 use Rattle.base_laws.proofs.ListLemmas.{each_at}

@@ -12,9 +12,9 @@ use Rattle.hs_base.specs.declared.plan.Extension.{Extension}
 use Rattle.hs_base.specs.Missions.{IsKindOf}
 use Rattle.hs_base.specs.Walks.{EachAfter, join_after}
 use Rattle.hs_base.specs.Points.{count, points_of, tokens_of}
-use Rattle.hs_base.specs.Written.{fix_line, token_line, support_line, goal_line, goal_lines, body_in}
-use Rattle.hs_base.specs.PlanText.{extension_text, plan_text}
-use Rattle.hs_base.specs.PlanSpelling.{PlanSpells}
+use Rattle.hs_texts.specs.Written.{fix_line, token_line, support_line, goal_line, goal_lines, body_in}
+use Rattle.hs_texts.specs.PlanText.{extension_text, plan_text}
+use Rattle.hs_texts.specs.PlanSpelling.{PlanSpells}
 use Rattle.text_laws.specs.WritablePlans.{IsWritableFix, IsWritableExtension, IsWritablePlan, written_extensions}
 use Rattle.base_laws.proofs.ListLemmas.{each_both}
 use Rattle.base_laws.proofs.PointLemmas.{count_is, count-push, tokens-push}

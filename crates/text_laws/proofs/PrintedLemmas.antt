@@ -11,27 +11,27 @@ use Rattle.hs_base.specs.declared.limits.TheConstants.{TEXT_BYTES, LAST, NAME_BY
 use Rattle.hs_base.specs.declared.range.Range.{Range}
 use Rattle.hs_base.specs.declared.relation.Relation.{Relation}
 use Rattle.hs_base.specs.declared.relation.Relation.TheVariants.{Before, After as AfterEnd, Meets as MeetsStart, MetBy, Starts, Ends, Equals, Contains as Encloses, ContainedBy}
-use Rattle.hs_base.specs.declared.ast.Ast.{Ast}
-use Rattle.hs_base.specs.declared.ast.AstChoice.{AstChoice}
-use Rattle.hs_base.specs.declared.ast.AstGoal.{AstGoal}
-use Rattle.hs_base.specs.declared.ast.AstHorizon.{AstHorizon}
-use Rattle.hs_base.specs.declared.ast.AstKind.{AstKind}
-use Rattle.hs_base.specs.declared.ast.AstNeed.{AstNeed}
-use Rattle.hs_base.specs.declared.ast.AstSaid.{AstSaid}
-use Rattle.hs_base.specs.declared.ast.AstStep.{AstStep}
-use Rattle.hs_base.specs.declared.ast.AstStep.TheVariants.{Do as AstDo, Until as AstUntil}
-use Rattle.hs_base.specs.declared.ast.AstValue.{AstValue}
-use Rattle.hs_base.specs.declared.ast.AstVar.{AstVar}
-use Rattle.hs_base.specs.declared.ast.Use.{Use}
+use Rattle.hs_texts.specs.declared.ast.Ast.{Ast}
+use Rattle.hs_texts.specs.declared.ast.AstChoice.{AstChoice}
+use Rattle.hs_texts.specs.declared.ast.AstGoal.{AstGoal}
+use Rattle.hs_texts.specs.declared.ast.AstHorizon.{AstHorizon}
+use Rattle.hs_texts.specs.declared.ast.AstKind.{AstKind}
+use Rattle.hs_texts.specs.declared.ast.AstNeed.{AstNeed}
+use Rattle.hs_texts.specs.declared.ast.AstSaid.{AstSaid}
+use Rattle.hs_texts.specs.declared.ast.AstStep.{AstStep}
+use Rattle.hs_texts.specs.declared.ast.AstStep.TheVariants.{Do as AstDo, Until as AstUntil}
+use Rattle.hs_texts.specs.declared.ast.AstValue.{AstValue}
+use Rattle.hs_texts.specs.declared.ast.AstVar.{AstVar}
+use Rattle.hs_texts.specs.declared.ast.Use.{Use}
 use Rattle.hs_base.specs.Names.{IsName, is_name, is_name_byte, is_small_letter, begins_small}
 use Rattle.hs_base.specs.Ranges.{range, whole, InRange}
 use Rattle.hs_base.specs.Reduced.{int_eq}
-use Rattle.hs_base.specs.Pieces.{Piece, word, begins, is_letter, is_word_byte}
-use Rattle.hs_base.specs.Languages.{Language, Yields, Then, Maybe, Many, ◌>>=◌, Keyword, Sign, After, Behind}
-use Rattle.hs_base.specs.MissionText.{version_says, VersionText, name_says, NameText, LimitText, RangeText, UseText, KindText, NextText, DoText, UntilText, PartText, PartsText, ScriptText, SaidText, AnswersText, PlainText, DeviceText, ValueText, BeginText, VarText, OneRange, TwoRanges, RelationText, ChoiceText, FurtherChoices, ChoicesText, NeedText, GoalText, HorizonText, MissionText, until_done}
-use Rattle.hs_base.specs.CanonicalText.{apart, limit_text, range_text, is_whole, use_text, kind_text, next_text, step_text, is_until_done, script_line, said_text, answers_line, lasts_text, value_lines, begin_line, var_lines, relation_text, choice_text, need_line, goal_range, goal_line, horizon_lines, canonical}
+use Rattle.hs_texts.specs.Pieces.{Piece, word, begins, is_letter, is_word_byte}
+use Rattle.hs_texts.specs.Languages.{Language, Yields, Then, Maybe, Many, ◌>>=◌, Keyword, Sign, After, Behind}
+use Rattle.hs_texts.specs.MissionText.{version_says, VersionText, name_says, NameText, LimitText, RangeText, UseText, KindText, NextText, DoText, UntilText, PartText, PartsText, ScriptText, SaidText, AnswersText, PlainText, DeviceText, ValueText, BeginText, VarText, OneRange, TwoRanges, RelationText, ChoiceText, FurtherChoices, ChoicesText, NeedText, GoalText, HorizonText, MissionText, until_done}
+use Rattle.hs_texts.specs.CanonicalText.{apart, limit_text, range_text, is_whole, use_text, kind_text, next_text, step_text, is_until_done, script_line, said_text, answers_line, lasts_text, value_lines, begin_line, var_lines, relation_text, choice_text, need_line, goal_range, goal_line, horizon_lines, canonical}
 use Rattle.text_laws.specs.Writable.{AreLimits, IsBareUse, IsBareKind, IsWritableStep, ends_awaiting, IsWritableSaid, AreWritableAnswers, IsWritableValue, IsWritableBegin, IsWritableVar, HasLimits, IsWritableChoice, IsWritableNeed, IsWritableGoal, IsWritableHorizon, IsWritable}
-use Rattle.hs_base.specs.MissionSpelling.{Spells}
+use Rattle.hs_texts.specs.MissionSpelling.{Spells}
 use Rattle.text_laws.specs.Writes.{Writes, MayFollow}
 use Rattle.text_laws.proofs.WritesLemmas.{text_written, nothing, line_end, three, four, five, seven, eight, loosened, seen_as, left, right, respelled, spaced, next_line, ended, followed, closed_then, yielded, is_word_text, word_written, decimal_written, number_written, keyword, keyed, keyed_between, sign, signed, lines, some_lines, separated, separated_begin, parted, each}
 

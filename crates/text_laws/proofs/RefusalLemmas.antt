@@ -4,13 +4,13 @@ use Rattle.std.specs.List.{list_any}
 use Rattle.std.specs.Str.{IsUtf8, IsValidUpTo}
 use Rattle.std.proofs.Math.Seq.{take-length}
 use Rattle.std.proofs.lemmas.Str.{utf8_valid_len-IsValidUpTo}
-use Rattle.hs_base.specs.declared.ast.Ast.{Ast}
-use Rattle.hs_base.specs.declared.refusal.Refusal.{Refusal}
-use Rattle.hs_base.specs.declared.refusal.Refusal.TheVariants.{NotUtf8, Char, Expected, Number, Trailing, Twice, Unknown, Range, Limit, NoBegin, Horizons, SameVar, SameBy, Memory}
-use Rattle.hs_base.specs.Pieces.{Placed, is_large, IsBadNumber, IsTextOf, IsCutRefusal, pieces_of, place_in}
-use Rattle.hs_base.specs.Languages.{IsExpected, IsTrailing}
-use Rattle.hs_base.specs.MissionText.{MissionText}
-use Rattle.hs_base.specs.MissionSpelling.{Spells, IsExpectedIn, IsTrailingIn, IsReadRefusal}
+use Rattle.hs_texts.specs.declared.ast.Ast.{Ast}
+use Rattle.hs_texts.specs.declared.refusal.Refusal.{Refusal}
+use Rattle.hs_texts.specs.declared.refusal.Refusal.TheVariants.{NotUtf8, Char, Expected, Number, Trailing, Twice, Unknown, Range, Limit, NoBegin, Horizons, SameVar, SameBy, Memory}
+use Rattle.hs_texts.specs.Pieces.{Placed, is_large, IsBadNumber, IsTextOf, IsCutRefusal, pieces_of, place_in}
+use Rattle.hs_texts.specs.Languages.{IsExpected, IsTrailing}
+use Rattle.hs_texts.specs.MissionText.{MissionText}
+use Rattle.hs_texts.specs.MissionSpelling.{Spells, IsExpectedIn, IsTrailingIn, IsReadRefusal}
 use Rattle.text_laws.specs.MissionReading.{mission_at}
 use Rattle.text_laws.proofs.PieceLemmas.{cut_one, cut_or_bad, bad_char_one}
 use Rattle.text_laws.proofs.MissionLemmas.{mission_reads}

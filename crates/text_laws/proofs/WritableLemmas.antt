@@ -10,16 +10,16 @@ use Rattle.hs_base.specs.declared.limits.TheConstants.{LAST, NAME_BYTES}
 use Rattle.hs_base.specs.declared.range.Range.{Range}
 use Rattle.hs_base.specs.declared.relation.Relation.{Relation}
 use Rattle.hs_base.specs.declared.relation.Relation.TheVariants.{Before, After as AfterEnd, Starts, Ends, Contains as Encloses, ContainedBy}
-use Rattle.hs_base.specs.declared.ast.Ast.{Ast}
-use Rattle.hs_base.specs.declared.ast.AstChoice.{AstChoice}
-use Rattle.hs_base.specs.declared.ast.AstStep.{AstStep}
-use Rattle.hs_base.specs.declared.ast.AstStep.TheVariants.{Do as AstDo, Until as AstUntil}
+use Rattle.hs_texts.specs.declared.ast.Ast.{Ast}
+use Rattle.hs_texts.specs.declared.ast.AstChoice.{AstChoice}
+use Rattle.hs_texts.specs.declared.ast.AstStep.{AstStep}
+use Rattle.hs_texts.specs.declared.ast.AstStep.TheVariants.{Do as AstDo, Until as AstUntil}
 use Rattle.hs_base.specs.Names.{IsName, is_name, is_name_byte, begins_small, is_reserved}
 use Rattle.hs_base.specs.Ranges.{whole, InRange}
-use Rattle.hs_base.specs.Pieces.{Piece, word, number as digits, symbol, is_large, number_of, Placed, pieces_of}
-use Rattle.hs_base.specs.Languages.{Language, One, Yields, Then, ◌∣◌, Maybe, Many, Several, Keyword, Number, After, Apart, number_says}
-use Rattle.hs_base.specs.MissionText.{version_says, name_says, NameText, LimitText, RangeText, UseText, KindText, NextText, DoText, UntilText, PartText, PartsText, ScriptText, SaidText, AnswersText, PlainText, DeviceText, ValueText, BeginText, VarText, OneRange, TwoRanges, RelationText, ChoiceText, FurtherChoices, ChoicesText, NeedText, GoalText, HorizonText, MissionText}
-use Rattle.hs_base.specs.MissionSpelling.{Spells, SpellsFront}
+use Rattle.hs_texts.specs.Pieces.{Piece, word, number as digits, symbol, is_large, number_of, Placed, pieces_of}
+use Rattle.hs_texts.specs.Languages.{Language, One, Yields, Then, ◌∣◌, Maybe, Many, Several, Keyword, Number, After, Apart, number_says}
+use Rattle.hs_texts.specs.MissionText.{version_says, name_says, NameText, LimitText, RangeText, UseText, KindText, NextText, DoText, UntilText, PartText, PartsText, ScriptText, SaidText, AnswersText, PlainText, DeviceText, ValueText, BeginText, VarText, OneRange, TwoRanges, RelationText, ChoiceText, FurtherChoices, ChoicesText, NeedText, GoalText, HorizonText, MissionText}
+use Rattle.hs_texts.specs.MissionSpelling.{Spells, SpellsFront}
 use Rattle.text_laws.specs.Writable.{AreLimits, IsBareUse, IsBareKind, IsWritableStep, ends_awaiting, IsWritableSaid, AreWritableAnswers, IsWritableValue, IsWritableBegin, IsWritableVar, HasLimits, IsWritableChoice, IsWritableNeed, IsWritableGoal, IsWritableHorizon, IsWritable}
 
 -- Values that sentences without large numbers give.

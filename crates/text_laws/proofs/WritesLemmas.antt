@@ -14,9 +14,9 @@ use Rattle.std.proofs.lemmas.Bool.Decides.{nat_tests}
 use Prim.Native.String.{String}
 use Rattle.hs_base.specs.declared.limits.TheConstants.{LAST, TEXT_BYTES}
 use Rattle.hs_base.specs.Ranges.{whole, InRange}
-use Rattle.hs_base.specs.Pieces.{Piece, word, number as digits, symbol, begins, is_letter, is_digit, is_symbol, is_space, is_word_byte, is_large, number_of, Placed, IsTextOf, pieces_of}
-use Rattle.hs_base.specs.Languages.{Language, One, Yields, Then, ◌∣◌, Many, Several, Keyword, Sign, Number, Behind, Apart, word_says, symbol_says, number_says}
-use Rattle.hs_base.specs.CanonicalText.{apart}
+use Rattle.hs_texts.specs.Pieces.{Piece, word, number as digits, symbol, begins, is_letter, is_digit, is_symbol, is_space, is_word_byte, is_large, number_of, Placed, IsTextOf, pieces_of}
+use Rattle.hs_texts.specs.Languages.{Language, One, Yields, Then, ◌∣◌, Many, Several, Keyword, Sign, Number, Behind, Apart, word_says, symbol_says, number_says}
+use Rattle.hs_texts.specs.CanonicalText.{apart}
 use Rattle.text_laws.specs.Writes.{IsCutInto, MayFollow, Writes}
 use Rattle.text_laws.proofs.WrittenLemmas.{cut_nothing, cut_space, cut_piece, cut_is_text, space_ends, symbol_ends, ends_number}
 

@@ -7,7 +7,7 @@ use Rattle.std.proofs.lemmas.Str.Ascii.{IsAscii-nil, IsAscii-cons}
 use Rattle.std.specs.List.{list_all, list_any}
 use Rattle.std.specs.Str.{IsAscii}
 use Rattle.hs_base.specs.declared.limits.TheConstants.{TEXT_BYTES}
-use Rattle.hs_base.specs.Pieces.{Piece, word, number, symbol, begins, bytes_of, IsPiece, Placed, after_gap, Cuts, IsTextOf, is_letter, is_digit, is_symbol, is_space, is_word_byte, is_large}
+use Rattle.hs_texts.specs.Pieces.{Piece, word, number, symbol, begins, bytes_of, IsPiece, Placed, after_gap, Cuts, IsTextOf, is_letter, is_digit, is_symbol, is_space, is_word_byte, is_large}
 use Rattle.text_laws.specs.Writes.{IsCutInto}
 
 -- Bytes of gaps and of pieces.

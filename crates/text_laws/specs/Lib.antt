@@ -6,4 +6,3 @@ pub mod Writable
 pub mod Writes
 pub mod WritablePlans
 pub mod Refused
-pub mod WritableLogs

@@ -2,8 +2,8 @@
 use Rattle.std.specs.Prelude.{ℕ, zero, suc, Bool, false, cond, nat_eq, ℤ, List, [], ◌∷◌, length, Option, Some, None, codes}
 use Rattle.std.specs.Str.{bytes_eq, byte}
 use Prim.Native.String.{String}
-use Rattle.hs_base.specs.Pieces.{Piece, word, symbol}
-use Rattle.hs_base.specs.Languages.{word_says, symbol_says, number_says}
+use Rattle.hs_texts.specs.Pieces.{Piece, word, symbol}
+use Rattle.hs_texts.specs.Languages.{word_says, symbol_says, number_says}
 
 -- a value and the pieces left behind its own, or the pieces at which reading is stuck
 pub data Read (A : Type 0) : Type 0 where

@@ -1,8 +1,8 @@
 -- When a parser reads a language: one piece of look-ahead decides, and what is read is all that could be.
 use Rattle.std.specs.Prelude.{◌≡◌, Bool, true, false, List, ◌∷◌, ◌++◌, Option, Some, None}
 use Rattle.std.specs.List.{AllByRecursion}
-use Rattle.hs_base.specs.Pieces.{Piece}
-use Rattle.hs_base.specs.Languages.{Language, BeginsSentence}
+use Rattle.hs_texts.specs.Pieces.{Piece}
+use Rattle.hs_texts.specs.Languages.{Language, BeginsSentence}
 use Rattle.text_laws.specs.Parsers.{Parser, done, stuck, next}
 
 -- the piece that is next, if there is one, is none of these

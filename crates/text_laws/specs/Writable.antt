@@ -4,18 +4,18 @@ use Rattle.std.specs.List.{AllByRecursion}
 use Rattle.hs_base.specs.declared.range.Range.{Range}
 use Rattle.hs_base.specs.declared.relation.Relation.{Relation}
 use Rattle.hs_base.specs.declared.relation.Relation.TheVariants.{Before, After as AfterEnd, Meets as MeetsStart, MetBy, Starts, Ends, Equals, Contains as Encloses, ContainedBy}
-use Rattle.hs_base.specs.declared.ast.Ast.{Ast}
-use Rattle.hs_base.specs.declared.ast.AstChoice.{AstChoice}
-use Rattle.hs_base.specs.declared.ast.AstGoal.{AstGoal}
-use Rattle.hs_base.specs.declared.ast.AstHorizon.{AstHorizon}
-use Rattle.hs_base.specs.declared.ast.AstKind.{AstKind}
-use Rattle.hs_base.specs.declared.ast.AstNeed.{AstNeed}
-use Rattle.hs_base.specs.declared.ast.AstSaid.{AstSaid}
-use Rattle.hs_base.specs.declared.ast.AstStep.{AstStep}
-use Rattle.hs_base.specs.declared.ast.AstStep.TheVariants.{Do as AstDo, Until as AstUntil}
-use Rattle.hs_base.specs.declared.ast.AstValue.{AstValue}
-use Rattle.hs_base.specs.declared.ast.AstVar.{AstVar}
-use Rattle.hs_base.specs.declared.ast.Use.{Use}
+use Rattle.hs_texts.specs.declared.ast.Ast.{Ast}
+use Rattle.hs_texts.specs.declared.ast.AstChoice.{AstChoice}
+use Rattle.hs_texts.specs.declared.ast.AstGoal.{AstGoal}
+use Rattle.hs_texts.specs.declared.ast.AstHorizon.{AstHorizon}
+use Rattle.hs_texts.specs.declared.ast.AstKind.{AstKind}
+use Rattle.hs_texts.specs.declared.ast.AstNeed.{AstNeed}
+use Rattle.hs_texts.specs.declared.ast.AstSaid.{AstSaid}
+use Rattle.hs_texts.specs.declared.ast.AstStep.{AstStep}
+use Rattle.hs_texts.specs.declared.ast.AstStep.TheVariants.{Do as AstDo, Until as AstUntil}
+use Rattle.hs_texts.specs.declared.ast.AstValue.{AstValue}
+use Rattle.hs_texts.specs.declared.ast.AstVar.{AstVar}
+use Rattle.hs_texts.specs.declared.ast.Use.{Use}
 use Rattle.hs_base.specs.Names.{IsName}
 use Rattle.hs_base.specs.Ranges.{whole, InRange}
 

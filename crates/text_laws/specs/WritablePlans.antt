@@ -12,8 +12,8 @@ use Rattle.hs_base.specs.Missions.{IsKindOf, IsMission}
 use Rattle.hs_base.specs.Ranges.{whole, InRange}
 use Rattle.hs_base.specs.Walks.{EachAfter}
 use Rattle.hs_base.specs.Points.{Point, origin, horizon, ending, count, points_of}
-use Rattle.hs_base.specs.Written.{variable_name, value_name}
-use Rattle.hs_base.specs.WrittenPlan.{WrittenPoint, at_origin, at_horizon, at_end, WrittenToken, WrittenFix, WrittenKind, WrittenSupport, WrittenBody, WrittenExtension}
+use Rattle.hs_texts.specs.Written.{variable_name, value_name}
+use Rattle.hs_texts.specs.WrittenPlan.{WrittenPoint, at_origin, at_horizon, at_end, WrittenToken, WrittenFix, WrittenKind, WrittenSupport, WrittenBody, WrittenExtension}
 
 -- a token of a variable of the mission
 pub record IsWritableToken (m : Mission) (t : TokenRef) : Type 0 where

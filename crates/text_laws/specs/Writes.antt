@@ -2,8 +2,8 @@
 use Rattle.std.specs.Prelude.{◌≡◌, ℕ, ◌≤◌, Bool, true, false, List, [], ◌++◌, length, ⊤}
 use Rattle.std.specs.List.{list_any}
 use Rattle.std.specs.Str.{IsAscii}
-use Rattle.hs_base.specs.Pieces.{Piece, Placed, Cuts, after_gap, begins, is_word_byte, is_large, pieces_of}
-use Rattle.hs_base.specs.Languages.{Language}
+use Rattle.hs_texts.specs.Pieces.{Piece, Placed, Cuts, after_gap, begins, is_word_byte, is_large, pieces_of}
+use Rattle.hs_texts.specs.Languages.{Language}
 
 -- the bytes, which end at that place, are cut into these pieces and no others; none is too large, and all bytes are ASCII
 pub record IsCutInto (end : ℕ) (bytes : List ℕ) (ps : List Piece) : Type 0 where

@@ -1,7 +1,7 @@
 // The laws of the cut.
 ghost use Rattle.std.specs.Prelude.{◌≡◌, ℕ, List};
-ghost use Rattle.hs_base.specs.declared.refusal.Refusal.{Refusal};
-ghost use Rattle.hs_base.specs.Pieces.{Placed, AreCut, IsTextOf, IsCutRefusal};
+ghost use Rattle.hs_texts.specs.declared.refusal.Refusal.{Refusal};
+ghost use Rattle.hs_texts.specs.Pieces.{Placed, AreCut, IsTextOf, IsCutRefusal};
 
 /// Bytes are cut into pieces in one way.
 pub fn bytes_are_cut_one_way()

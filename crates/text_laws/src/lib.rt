@@ -3,14 +3,12 @@
 #![tactic(auto)]
 
 mod cutting;
-mod logs;
 mod plans;
 mod reading;
 mod samples;
 mod writing;
 
 pub use cutting::{bytes_are_cut_one_way, the_cut_has_one_answer};
-pub use logs::log_texts_are_sentences;
 pub use plans::plan_texts_spell_their_plans;
 pub use reading::{
     a_mission_text_spells_one_ast, a_text_has_one_answer, clauses_are_read, missions_are_read,

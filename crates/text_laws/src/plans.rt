@@ -3,8 +3,8 @@ ghost use Rattle.std.specs.Prelude.{◌≤◌, List, length};
 ghost use Rattle.hs_base.specs.declared.limits.TheConstants.{TEXT_BYTES};
 ghost use Rattle.hs_base.specs.declared.mission.Mission.{Mission};
 ghost use Rattle.hs_base.specs.declared.plan.Extension.{Extension};
-ghost use Rattle.hs_base.specs.PlanText.{plan_text};
-ghost use Rattle.hs_base.specs.PlanSpelling.{PlanSpells};
+ghost use Rattle.hs_texts.specs.PlanText.{plan_text};
+ghost use Rattle.hs_texts.specs.PlanSpelling.{PlanSpells};
 ghost use Rattle.text_laws.specs.WritablePlans.{IsWritablePlan};
 
 /// The text of a plan spells the plan, unless it is longer than a text may be.

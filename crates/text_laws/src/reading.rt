@@ -1,9 +1,9 @@
 // The laws of reading missions.
 ghost use Rattle.std.specs.Prelude.{◌≡◌, ℕ, List, []};
-ghost use Rattle.hs_base.specs.declared.ast.Ast.{Ast};
-ghost use Rattle.hs_base.specs.declared.refusal.Refusal.{Refusal};
-ghost use Rattle.hs_base.specs.MissionText.{MissionText, RangeText, KindText, ChoiceText};
-ghost use Rattle.hs_base.specs.MissionSpelling.{Spells, IsReadRefusal};
+ghost use Rattle.hs_texts.specs.declared.ast.Ast.{Ast};
+ghost use Rattle.hs_texts.specs.declared.refusal.Refusal.{Refusal};
+ghost use Rattle.hs_texts.specs.MissionText.{MissionText, RangeText, KindText, ChoiceText};
+ghost use Rattle.hs_texts.specs.MissionSpelling.{Spells, IsReadRefusal};
 ghost use Rattle.text_laws.specs.Reads.{Reads};
 ghost use Rattle.text_laws.specs.MissionReading.{mission_at, range_at, kind_at, choice_at};
 

@@ -1,7 +1,7 @@
 // The laws at two small missions.
 ghost use Rattle.std.specs.Prelude.{◌≡◌};
-ghost use Rattle.hs_base.specs.MissionText.{MissionText};
-ghost use Rattle.hs_base.specs.CanonicalText.{canonical};
+ghost use Rattle.hs_texts.specs.MissionText.{MissionText};
+ghost use Rattle.hs_texts.specs.CanonicalText.{canonical};
 ghost use Rattle.text_laws.specs.Samples.{smallest_pieces, smallest, camera_pieces, camera, camera_text};
 
 /// The pieces of two small missions spell them.

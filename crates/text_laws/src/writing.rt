@@ -1,9 +1,9 @@
 // The laws of writing missions.
 ghost use Rattle.std.specs.Prelude.{◌≡◌, ℕ, ◌≤◌, List, length};
-ghost use Rattle.hs_base.specs.declared.ast.Ast.{Ast};
+ghost use Rattle.hs_texts.specs.declared.ast.Ast.{Ast};
 ghost use Rattle.hs_base.specs.declared.limits.TheConstants.{TEXT_BYTES};
-ghost use Rattle.hs_base.specs.CanonicalText.{canonical};
-ghost use Rattle.hs_base.specs.MissionSpelling.{Spells};
+ghost use Rattle.hs_texts.specs.CanonicalText.{canonical};
+ghost use Rattle.hs_texts.specs.MissionSpelling.{Spells};
 ghost use Rattle.text_laws.specs.Writable.{IsWritable};
 
 /// A mission that a text spells is writable, and a writable one is spelled by its canonical text,

@@ -3,10 +3,7 @@ ghost use Rattle.hs_base.specs.Ranges.{range};
 ghost use Rattle.base_laws.specs.Samples.{smallest, smallest_plan, plain_value};
 
 use super::*;
-use hs_base::{
-    Bound, Extension, Horizon, Kind, LAST, List, Memory, Mission, Name, Plan, PointId, Range, SvId,
-    TokenRef, ValId, Value, Var,
-};
+use hs_base::{Bound, Extension, Horizon, Kind, LAST, List, Memory, Mission, Name, Plan, PointId, Range, SvId, TokenRef, ValId, Value, Var};
 use std::alloc::Global;
 use std::test::Fail;
 

@@ -1,5 +1,5 @@
 ghost use Rattle.std.specs.Prelude.{◌≡◌, [], ◌∷◌, ◌++◌, cond, not, IfOk};
-ghost use Rattle.hs_base.specs.MissionRefusals.{is_among};
+ghost use Rattle.hs_texts.specs.MissionRefusals.{is_among};
 ghost use Rattle.domain_check.specs.Numbering.{number_in};
 ghost use Rattle.domain_check.specs.Tables.{names_in};
 

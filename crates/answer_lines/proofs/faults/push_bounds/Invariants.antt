@@ -1,5 +1,5 @@
 use Rattle.std.proofs.Common.{◌≡◌, ◌++◌, flat_map, take, codes}
-use Rattle.hs_base.specs.Written.{bound_in}
+use Rattle.hs_texts.specs.Written.{bound_in}
 use Rattle.answer_lines.proofs.faults.push_bounds.Given as goal
 
 abbrev pub invariant-loop-bound : goal.invariant-loop-bound

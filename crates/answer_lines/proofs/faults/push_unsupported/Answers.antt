@@ -1,6 +1,6 @@
 use Rattle.std.proofs.Common.{◌≡◌, ◌++◌, OnOk, ap, ◌∙◌, codes, subst, append_assoc}
 use Rattle.std.specs.Fmt.{decimal}
-use Rattle.hs_base.specs.Written.{variable_name}
+use Rattle.hs_texts.specs.Written.{variable_name}
 use Rattle.answer_lines.proofs.faults.push_unsupported.Goals as goal
 
 pub returns : goal.returns

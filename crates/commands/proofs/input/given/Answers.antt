@@ -1,6 +1,6 @@
 use Rattle.std.proofs.Common.{ℕ, List, subst, inl, inr}
 use Rattle.std.proofs.lemmas.Result.{err_from_is_err_and}
-use Rattle.hs_base.specs.Pieces.{IsCutRefusal}
+use Rattle.hs_texts.specs.Pieces.{IsCutRefusal}
 use Rattle.text_laws.specs.Refused.{OrMemory}
 use Rattle.text_laws.proofs.RefusalLemmas.{text_or_refused}
 use Rattle.plan_text.specs.PlanSpelling.{IsPlanRefusal}

@@ -1,6 +1,6 @@
 use Rattle.std.proofs.Common.{inr}
 use Rattle.std.proofs.lemmas.Result.{IfOk-weaker}
-use Rattle.hs_base.specs.MissionSpelling.{IsRefusalOf}
+use Rattle.hs_texts.specs.MissionSpelling.{IsRefusalOf}
 use Rattle.commands.specs.Inputs.{IsTold}
 use Rattle.commands.specs.Plans.{Nets}
 use Rattle.commands.specs.declared.outcome.Outcome.{Outcome}

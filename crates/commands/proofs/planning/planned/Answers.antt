@@ -1,7 +1,7 @@
 use Rattle.std.proofs.Common.{[], refl, ap, ◌∙◌, arith}
 use Rattle.std.proofs.lemmas.Result.{IfOk-weaker}
 use Rattle.hs_base.specs.declared.plan.Plan.{Plan}
-use Rattle.hs_base.specs.PlanText.{plan_text}
+use Rattle.hs_texts.specs.PlanText.{plan_text}
 use Rattle.hs_base.specs.Points.{count}
 use Rattle.plan_check.proofs.WithinLemmas.{few_points}
 use Rattle.commands.specs.declared.outcome.Outcome.{Outcome}

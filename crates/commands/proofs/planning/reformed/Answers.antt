@@ -4,7 +4,7 @@ use Rattle.hs_base.specs.declared.mission.Mission.{Mission}
 use Rattle.hs_base.specs.declared.net.Net.{Net}
 use Rattle.hs_base.specs.declared.plan.Plan.{Plan}
 use Rattle.hs_base.specs.Bounds.{bounds_of}
-use Rattle.hs_base.specs.NetText.{net_text}
+use Rattle.hs_texts.specs.NetText.{net_text}
 use Rattle.hs_base.specs.Points.{count}
 use Rattle.hs_base.specs.Reduced.{IsReducedOf}
 use Rattle.plan_check.specs.Planned.{Planned}

@@ -1,6 +1,6 @@
 use Rattle.std.proofs.Common.{inr}
 use Rattle.std.proofs.lemmas.Result.{err_from_is_err_and}
-use Rattle.hs_base.specs.MissionSpelling.{IsMissionRefusal, IsRefusalOf}
+use Rattle.hs_texts.specs.MissionSpelling.{IsMissionRefusal, IsRefusalOf}
 use Rattle.text_laws.proofs.WritableLemmas.{spelled_writable}
 use Rattle.commands.proofs.InputLemmas.{wider}
 use Rattle.commands.proofs.printing.accepted.Goals as goal

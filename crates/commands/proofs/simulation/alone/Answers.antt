@@ -1,6 +1,6 @@
 use Rattle.std.proofs.Common.{◌≡◌, [], inl, inr}
 use Rattle.std.proofs.lemmas.Result.{IfOk-weaker}
-use Rattle.hs_base.specs.LogText.{log_text}
+use Rattle.log_laws.specs.LogText.{log_text}
 use Rattle.commands.specs.declared.outcome.Outcome.{Outcome}
 use Rattle.commands.specs.declared.status.Status.TheVariants.{Refused}
 use Rattle.commands.specs.Searches.{Searches}

@@ -1,8 +1,8 @@
 use Rattle.std.proofs.Common.{List, ◌++◌, refl, sym, ap, ◌∙◌}
 use Rattle.hs_base.specs.declared.mission.Mission.{Mission}
-use Rattle.hs_base.specs.declared.history.Entry.{Entry}
-use Rattle.hs_base.specs.ClosingText.{done_line}
-use Rattle.hs_base.specs.LogText.{log_text}
+use Rattle.hs_machine.specs.declared.history.Entry.{Entry}
+use Rattle.hs_texts.specs.ClosingText.{done_line}
+use Rattle.log_laws.specs.LogText.{log_text}
 use Rattle.commands.proofs.simulation.flown.Goals as goal
 
 pub returns : goal.returns

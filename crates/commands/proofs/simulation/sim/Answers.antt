@@ -1,7 +1,7 @@
 use Rattle.std.proofs.Common.{List, ℕ, subst, inl, inr}
 use Rattle.std.specs.Prelude.{IfOk}
 use Rattle.std.proofs.lemmas.Result.{IfOk-weaker}
-use Rattle.hs_base.specs.Pieces.{IsCutRefusal}
+use Rattle.hs_texts.specs.Pieces.{IsCutRefusal}
 use Rattle.text_laws.proofs.RefusalLemmas.{text_or_refused}
 use Rattle.commands.specs.declared.outcome.Outcome.{Outcome}
 use Rattle.commands.specs.Inputs.{IsFrontRefusalOf, IsTold}

@@ -1,5 +1,5 @@
 use Rattle.std.proofs.Common.{◌≡◌, ◌++◌, flat_map, take}
-use Rattle.hs_base.specs.CanonicalText.{goal_line}
+use Rattle.hs_texts.specs.CanonicalText.{goal_line}
 use Rattle.ddl_print.proofs.horizons.push_goals.Given as goal
 
 abbrev pub invariant-loop-goal : goal.invariant-loop-goal

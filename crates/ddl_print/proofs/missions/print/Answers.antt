@@ -1,7 +1,7 @@
 use Rattle.std.proofs.Common.{◌≡◌, ◌≤◌, List, ℕ, length, sym, subst, rules}
 use Rattle.hs_base.specs.declared.limits.TheConstants.{TEXT_BYTES}
-use Rattle.hs_base.specs.CanonicalText.{canonical}
-use Rattle.hs_base.specs.MissionSpelling.{Spells}
+use Rattle.hs_texts.specs.CanonicalText.{canonical}
+use Rattle.hs_texts.specs.MissionSpelling.{Spells}
 use Rattle.text_laws.proofs.WritableLemmas.{spelled_writable}
 use Rattle.text_laws.proofs.PrintedLemmas.{canonical_spells}
 use Rattle.text_laws.proofs.RefusalLemmas.{spelled_one}

@@ -1,5 +1,5 @@
 use Rattle.std.proofs.Common.{◌≡◌, ◌++◌, flat_map, map, drop, codes}
-use Rattle.hs_base.specs.CanonicalText.{apart, choice_text}
+use Rattle.hs_texts.specs.CanonicalText.{apart, choice_text}
 use Rattle.ddl_print.proofs.needs.push_choices.Given as goal
 
 abbrev pub invariant-loop-choice : goal.invariant-loop-choice

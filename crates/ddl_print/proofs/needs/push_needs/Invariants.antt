@@ -1,5 +1,5 @@
 use Rattle.std.proofs.Common.{◌≡◌, ◌++◌, flat_map, take}
-use Rattle.hs_base.specs.CanonicalText.{need_line}
+use Rattle.hs_texts.specs.CanonicalText.{need_line}
 use Rattle.ddl_print.proofs.needs.push_needs.Given as goal
 
 abbrev pub invariant-loop-need : goal.invariant-loop-need

@@ -1,5 +1,5 @@
 use Rattle.std.proofs.Common.{◌≡◌, ◌++◌, flat_map, take}
-use Rattle.hs_base.specs.CanonicalText.{answers_line}
+use Rattle.hs_texts.specs.CanonicalText.{answers_line}
 use Rattle.ddl_print.proofs.scripts.push_all_answers.Given as goal
 
 abbrev pub invariant-loop-words : goal.invariant-loop-words

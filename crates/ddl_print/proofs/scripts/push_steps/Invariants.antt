@@ -1,5 +1,5 @@
 use Rattle.std.proofs.Common.{◌≡◌, ◌++◌, flat_map, map, drop, codes}
-use Rattle.hs_base.specs.CanonicalText.{apart, step_text}
+use Rattle.hs_texts.specs.CanonicalText.{apart, step_text}
 use Rattle.ddl_print.proofs.scripts.push_steps.Given as goal
 
 abbrev pub invariant-loop-step : goal.invariant-loop-step

@@ -1,5 +1,5 @@
 use Rattle.std.proofs.Common.{◌≡◌, ◌++◌, flat_map, map, drop, codes}
-use Rattle.hs_base.specs.CanonicalText.{apart, said_text}
+use Rattle.hs_texts.specs.CanonicalText.{apart, said_text}
 use Rattle.ddl_print.proofs.scripts.push_words.Given as goal
 
 abbrev pub invariant-loop-said : goal.invariant-loop-said

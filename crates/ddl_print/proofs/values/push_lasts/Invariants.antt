@@ -1,5 +1,5 @@
 use Rattle.std.proofs.Common.{◌≡◌, ◌++◌, flat_map, map, drop, codes}
-use Rattle.hs_base.specs.CanonicalText.{apart, range_text}
+use Rattle.hs_texts.specs.CanonicalText.{apart, range_text}
 use Rattle.ddl_print.proofs.values.push_lasts.Given as goal
 
 abbrev pub invariant-loop-range : goal.invariant-loop-range

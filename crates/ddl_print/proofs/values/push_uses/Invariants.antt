@@ -1,5 +1,5 @@
 use Rattle.std.proofs.Common.{◌≡◌, ◌++◌, flat_map, map, drop, codes}
-use Rattle.hs_base.specs.CanonicalText.{apart, use_text}
+use Rattle.hs_texts.specs.CanonicalText.{apart, use_text}
 use Rattle.ddl_print.proofs.values.push_uses.Given as goal
 
 abbrev pub invariant-loop-value : goal.invariant-loop-value

@@ -1,5 +1,5 @@
 use Rattle.std.proofs.Common.{◌≡◌, ◌++◌, OnOk, List, ℕ, [], cond, codes, flat_map, ap, ◌∙◌, subst, append_assoc}
-use Rattle.hs_base.specs.CanonicalText.{next_text, lasts_text, script_line, answers_line}
+use Rattle.hs_texts.specs.CanonicalText.{next_text, lasts_text, script_line, answers_line}
 use Rattle.ddl_print.proofs.values.push_value.Goals as goal
 
 -- what grew part by part has all parts at its end

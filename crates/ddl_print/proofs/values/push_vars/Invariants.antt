@@ -1,5 +1,5 @@
 use Rattle.std.proofs.Common.{◌≡◌, ◌++◌, flat_map, take}
-use Rattle.hs_base.specs.CanonicalText.{var_lines}
+use Rattle.hs_texts.specs.CanonicalText.{var_lines}
 use Rattle.ddl_print.proofs.values.push_vars.Given as goal
 
 abbrev pub invariant-loop-var : goal.invariant-loop-var

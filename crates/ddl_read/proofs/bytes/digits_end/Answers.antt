@@ -1,5 +1,5 @@
 use Rattle.std.proofs.Common.{sym, ◌∙◌, arith}
-use Rattle.hs_base.specs.Pieces.{is_digit}
+use Rattle.hs_texts.specs.Pieces.{is_digit}
 use Rattle.ddl_read.proofs.ByteLemmas.{run_more}
 use Rattle.ddl_read.proofs.bytes.digits_end.Goals as goal
 

@@ -1,6 +1,6 @@
 use Rattle.std.proofs.Common.{◌≡◌, true, slice_range}
 use Rattle.std.specs.List.{list_all}
-use Rattle.hs_base.specs.Pieces.{is_digit}
+use Rattle.hs_texts.specs.Pieces.{is_digit}
 use Rattle.ddl_read.proofs.bytes.digits_end.Given as goal
 
 abbrev pub invariant-digits : goal.invariant-digits

@@ -1,5 +1,5 @@
 use Rattle.std.proofs.Common.{◌≡◌, false, drop}
-use Rattle.hs_base.specs.Pieces.{after_gap}
+use Rattle.hs_texts.specs.Pieces.{after_gap}
 use Rattle.ddl_read.proofs.bytes.gap_end.Given as goal
 
 abbrev pub invariant-gap : goal.invariant-gap

@@ -1,5 +1,5 @@
 use Rattle.std.proofs.Common.{sym, ◌∙◌, arith}
-use Rattle.hs_base.specs.Pieces.{is_word_byte}
+use Rattle.hs_texts.specs.Pieces.{is_word_byte}
 use Rattle.ddl_read.proofs.ByteLemmas.{run_more}
 use Rattle.ddl_read.proofs.bytes.word_end.Goals as goal
 

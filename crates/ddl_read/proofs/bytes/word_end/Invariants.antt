@@ -1,6 +1,6 @@
 use Rattle.std.proofs.Common.{◌≡◌, true, slice_range}
 use Rattle.std.specs.List.{list_all}
-use Rattle.hs_base.specs.Pieces.{is_word_byte}
+use Rattle.hs_texts.specs.Pieces.{is_word_byte}
 use Rattle.ddl_read.proofs.bytes.word_end.Given as goal
 
 abbrev pub invariant-word : goal.invariant-word

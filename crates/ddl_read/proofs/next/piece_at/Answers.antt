@@ -1,5 +1,5 @@
 use Rattle.std.proofs.Common.{◌∙◌, sym, arith}
-use Rattle.hs_base.specs.Pieces.{is_letter}
+use Rattle.hs_texts.specs.Pieces.{is_letter}
 use Rattle.ddl_read.proofs.ByteLemmas.{begins_run}
 use Rattle.ddl_read.proofs.next.piece_at.Goals as goal
 

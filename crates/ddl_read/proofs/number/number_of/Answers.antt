@@ -1,5 +1,5 @@
 use Rattle.std.proofs.Common.{◌+◌, ◌<◌, take, sym, arith}
-use Rattle.hs_base.specs.Pieces.{number_of}
+use Rattle.hs_texts.specs.Pieces.{number_of}
 use Rattle.ddl_read.proofs.ByteLemmas.{number_grows, number_more, too_large}
 use Rattle.ddl_read.proofs.number.number_of.Goals as goal
 

@@ -1,5 +1,5 @@
 use Rattle.std.proofs.Common.{◌≡◌, ◌≤◌, take}
-use Rattle.hs_base.specs.Pieces.{number_of}
+use Rattle.hs_texts.specs.Pieces.{number_of}
 use Rattle.ddl_read.proofs.number.number_of.Given as goal
 
 abbrev pub invariant-digits : goal.invariant-digits

@@ -1,5 +1,5 @@
 use Rattle.std.proofs.Common.{List, ℕ, subst, arith}
-use Rattle.hs_base.specs.MissionSpelling.{Spells, IsTrailingIn}
+use Rattle.hs_texts.specs.MissionSpelling.{Spells, IsTrailingIn}
 use Rattle.ddl_read.proofs.ReadLemmas.{spells_whole, trailing_in}
 use Rattle.ddl_read.proofs.reading.read.Goals as goal
 

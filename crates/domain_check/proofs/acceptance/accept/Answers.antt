@@ -1,8 +1,8 @@
 use Rattle.std.proofs.Common.{subst, sym, inl, inr}
 use Rattle.std.proofs.lemmas.Result.{err_from_is_err_and}
 use Rattle.hs_base.specs.declared.mission.Mission.{Mission}
-use Rattle.hs_base.specs.declared.refusal.Refusal.{Refusal}
-use Rattle.hs_base.specs.MissionMeaning.{Means}
+use Rattle.hs_texts.specs.declared.refusal.Refusal.{Refusal}
+use Rattle.hs_texts.specs.MissionMeaning.{Means}
 use Rattle.domain_check.proofs.AcceptanceLemmas.{meant}
 use Rattle.domain_check.proofs.RuleLemmas.{or_memory, not_meant}
 use Rattle.domain_check.proofs.acceptance.accept.Goals as goal

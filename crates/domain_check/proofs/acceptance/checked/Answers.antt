@@ -1,13 +1,13 @@
 use Rattle.std.proofs.Common.{◌≡◌, ◌∙◌, List, [], ◌∷◌, ap, sym, subst, length, cond}
 use Rattle.std.proofs.lemmas.Result.{err_from_is_err_and}
 use Rattle.std.specs.Prelude.{filter}
-use Rattle.hs_base.specs.declared.ast.AstHorizon.{AstHorizon}
-use Rattle.hs_base.specs.declared.ast.AstNeed.{AstNeed}
-use Rattle.hs_base.specs.declared.ast.AstVar.{AstVar}
-use Rattle.hs_base.specs.declared.refusal.Refusal.TheVariants.{Twice, NoBegin, Horizons, SameVar, SameBy}
+use Rattle.hs_texts.specs.declared.ast.AstHorizon.{AstHorizon}
+use Rattle.hs_texts.specs.declared.ast.AstNeed.{AstNeed}
+use Rattle.hs_texts.specs.declared.ast.AstVar.{AstVar}
+use Rattle.hs_texts.specs.declared.refusal.Refusal.TheVariants.{Twice, NoBegin, Horizons, SameVar, SameBy}
 use Rattle.hs_base.specs.Walks.{join_after}
-use Rattle.hs_base.specs.MissionMeaning.{var_names}
-use Rattle.hs_base.specs.MissionRefusals.{twice_names, var_again, names_without_begin, lacks_begin, early_horizons, is_early, places, asks_itself, asks_twice}
+use Rattle.hs_texts.specs.MissionMeaning.{var_names}
+use Rattle.hs_texts.specs.MissionRefusals.{twice_names, var_again, names_without_begin, lacks_begin, early_horizons, is_early, places, asks_itself, asks_twice}
 use Rattle.domain_check.specs.Checking.{IsRefused}
 use Rattle.domain_check.proofs.RuleLemmas.{refused_twice, refused_unknown, refused_range, refused_limit, refused_begin, refused_horizon, refused_variable, refused_choice}
 use Rattle.domain_check.proofs.acceptance.checked.Goals as goal

@@ -1,6 +1,6 @@
 use Rattle.std.proofs.Common.{◌≡◌, [], ◌∷◌, take, drop, cond, length}
 use Rattle.hs_base.specs.Walks.{join_after}
-use Rattle.hs_base.specs.MissionRefusals.{is_early}
+use Rattle.hs_texts.specs.MissionRefusals.{is_early}
 use Rattle.domain_check.proofs.horizons.check_horizons.Given as goal
 
 abbrev pub invariant-loop-i : goal.invariant-loop-i

@@ -1,7 +1,7 @@
 use Rattle.std.proofs.Common.{◌≡◌, [], ◌∷◌, take, drop, cond, length}
 use Rattle.hs_base.specs.Walks.{join_after}
-use Rattle.hs_base.specs.declared.ast.AstNeed.{AstNeed}
-use Rattle.hs_base.specs.MissionRefusals.{places, asks_twice}
+use Rattle.hs_texts.specs.declared.ast.AstNeed.{AstNeed}
+use Rattle.hs_texts.specs.MissionRefusals.{places, asks_twice}
 use Rattle.domain_check.proofs.needs.check_choices.Given as goal
 
 abbrev pub invariant-loop-i : goal.invariant-loop-i

@@ -1,12 +1,12 @@
 use Rattle.std.proofs.Common.{◌≡◌, ◌∙◌, ◌++◌, ap, sym, List, Bool, map, flat_map, append_assoc}
 use Rattle.std.proofs.lemmas.List.{map-append}
-use Rattle.hs_base.specs.declared.ast.AstChoice.{AstChoice}
-use Rattle.hs_base.specs.declared.ast.AstHorizon.{AstHorizon}
-use Rattle.hs_base.specs.declared.ast.AstNeed.{AstNeed}
-use Rattle.hs_base.specs.declared.ast.AstValue.{AstValue}
-use Rattle.hs_base.specs.declared.ast.AstVar.{AstVar}
+use Rattle.hs_texts.specs.declared.ast.AstChoice.{AstChoice}
+use Rattle.hs_texts.specs.declared.ast.AstHorizon.{AstHorizon}
+use Rattle.hs_texts.specs.declared.ast.AstNeed.{AstNeed}
+use Rattle.hs_texts.specs.declared.ast.AstValue.{AstValue}
+use Rattle.hs_texts.specs.declared.ast.AstVar.{AstVar}
 use Rattle.hs_base.specs.declared.range.Range.{Range}
-use Rattle.hs_base.specs.MissionRefusals.{is_exchanged, is_no_duration, ranges_of_relation, ranges_of_goal}
+use Rattle.hs_texts.specs.MissionRefusals.{is_exchanged, is_no_duration, ranges_of_relation, ranges_of_goal}
 use Rattle.domain_check.proofs.ranges.bad_flags.Goals as goal
 
 abbrev of_vars : List AstVar → List Range

@@ -1,6 +1,6 @@
 use Rattle.std.proofs.Common.{◌≡◌, [], ◌∷◌, take, drop, cond, length}
 use Rattle.hs_base.specs.Walks.{join_after}
-use Rattle.hs_base.specs.MissionRefusals.{places}
+use Rattle.hs_texts.specs.MissionRefusals.{places}
 use Rattle.domain_check.proofs.ranges.check_flags.Given as goal
 
 abbrev pub invariant-loop-i : goal.invariant-loop-i

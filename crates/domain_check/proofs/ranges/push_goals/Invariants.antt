@@ -1,5 +1,5 @@
 use Rattle.std.proofs.Common.{◌≡◌, ◌++◌, map, flat_map, take}
-use Rattle.hs_base.specs.MissionRefusals.{is_exchanged, ranges_of_goal}
+use Rattle.hs_texts.specs.MissionRefusals.{is_exchanged, ranges_of_goal}
 use Rattle.domain_check.proofs.ranges.push_goals.Given as goal
 
 abbrev pub invariant-loop-goal : goal.invariant-loop-goal

@@ -1,6 +1,6 @@
 use Rattle.std.proofs.Common.{◌≡◌, ◌++◌, map, flat_map, take}
-use Rattle.hs_base.specs.declared.ast.AstHorizon.{AstHorizon}
-use Rattle.hs_base.specs.MissionRefusals.{is_exchanged, ranges_of_goal}
+use Rattle.hs_texts.specs.declared.ast.AstHorizon.{AstHorizon}
+use Rattle.hs_texts.specs.MissionRefusals.{is_exchanged, ranges_of_goal}
 use Rattle.domain_check.proofs.ranges.push_horizons.Given as goal
 
 abbrev pub invariant-loop-horizon : goal.invariant-loop-horizon

@@ -1,5 +1,5 @@
 use Rattle.std.proofs.Common.{◌≡◌, ◌++◌, map, take}
-use Rattle.hs_base.specs.MissionRefusals.{is_no_duration}
+use Rattle.hs_texts.specs.MissionRefusals.{is_no_duration}
 use Rattle.domain_check.proofs.ranges.push_lasts.Given as goal
 
 abbrev pub invariant-loop-range : goal.invariant-loop-range

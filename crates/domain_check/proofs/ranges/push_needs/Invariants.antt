@@ -1,7 +1,7 @@
 use Rattle.std.proofs.Common.{◌≡◌, ◌++◌, map, flat_map, take}
-use Rattle.hs_base.specs.declared.ast.AstChoice.{AstChoice}
-use Rattle.hs_base.specs.declared.ast.AstNeed.{AstNeed}
-use Rattle.hs_base.specs.MissionRefusals.{is_exchanged, ranges_of_relation}
+use Rattle.hs_texts.specs.declared.ast.AstChoice.{AstChoice}
+use Rattle.hs_texts.specs.declared.ast.AstNeed.{AstNeed}
+use Rattle.hs_texts.specs.MissionRefusals.{is_exchanged, ranges_of_relation}
 use Rattle.domain_check.proofs.ranges.push_needs.Given as goal
 
 abbrev pub invariant-loop-need : goal.invariant-loop-need

@@ -1,6 +1,6 @@
 use Rattle.std.proofs.Common.{◌≡◌, ◌++◌, map, flat_map, take}
-use Rattle.hs_base.specs.declared.ast.AstValue.{AstValue}
-use Rattle.hs_base.specs.MissionRefusals.{is_no_duration}
+use Rattle.hs_texts.specs.declared.ast.AstValue.{AstValue}
+use Rattle.hs_texts.specs.MissionRefusals.{is_no_duration}
 use Rattle.domain_check.proofs.ranges.push_values.Given as goal
 
 abbrev pub invariant-loop-value : goal.invariant-loop-value

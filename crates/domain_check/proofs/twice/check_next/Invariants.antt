@@ -1,6 +1,6 @@
 use Rattle.std.proofs.Common.{◌≡◌, [], drop}
 use Rattle.hs_base.specs.Walks.{join_after}
-use Rattle.hs_base.specs.MissionRefusals.{again}
+use Rattle.hs_texts.specs.MissionRefusals.{again}
 use Rattle.domain_check.specs.Tables.{names_in, names_of_uses}
 use Rattle.domain_check.proofs.twice.check_next.Given as goal
 

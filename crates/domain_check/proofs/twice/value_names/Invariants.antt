@@ -1,6 +1,6 @@
 use Rattle.std.proofs.Common.{◌≡◌, [], take, drop}
 use Rattle.hs_base.specs.Walks.{join_after}
-use Rattle.hs_base.specs.MissionRefusals.{value_again}
+use Rattle.hs_texts.specs.MissionRefusals.{value_again}
 use Rattle.domain_check.specs.Tables.{names_in, names_of_values}
 use Rattle.domain_check.proofs.twice.value_names.Given as goal
 

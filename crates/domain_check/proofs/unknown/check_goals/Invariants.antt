@@ -1,5 +1,5 @@
 use Rattle.std.proofs.Common.{◌≡◌, flat_map, drop}
-use Rattle.hs_base.specs.MissionRefusals.{unknown_in_kind}
+use Rattle.hs_texts.specs.MissionRefusals.{unknown_in_kind}
 use Rattle.domain_check.specs.Tables.{kinds_of_goals}
 use Rattle.domain_check.proofs.unknown.check_goals.Given as goal
 

@@ -1,6 +1,6 @@
 use Rattle.std.proofs.Common.{◌≡◌, flat_map, drop}
-use Rattle.hs_base.specs.declared.ast.AstHorizon.{AstHorizon}
-use Rattle.hs_base.specs.MissionRefusals.{unknown_in_kind}
+use Rattle.hs_texts.specs.declared.ast.AstHorizon.{AstHorizon}
+use Rattle.hs_texts.specs.MissionRefusals.{unknown_in_kind}
 use Rattle.domain_check.specs.Tables.{kinds_of_goals}
 use Rattle.domain_check.proofs.unknown.check_horizons.Given as goal
 

@@ -1,5 +1,5 @@
 use Rattle.std.proofs.Common.{◌≡◌, flat_map, drop}
-use Rattle.hs_base.specs.MissionRefusals.{unknown_in_kind, kinds_of_need}
+use Rattle.hs_texts.specs.MissionRefusals.{unknown_in_kind, kinds_of_need}
 use Rattle.domain_check.proofs.unknown.check_needs.Given as goal
 
 abbrev pub invariant-loop-need : goal.invariant-loop-need

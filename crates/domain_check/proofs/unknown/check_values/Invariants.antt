@@ -1,5 +1,5 @@
 use Rattle.std.proofs.Common.{◌≡◌, flat_map, drop}
-use Rattle.hs_base.specs.MissionRefusals.{unknown_in, next_names}
+use Rattle.hs_texts.specs.MissionRefusals.{unknown_in, next_names}
 use Rattle.domain_check.specs.Tables.{names_in}
 use Rattle.domain_check.proofs.unknown.check_values.Given as goal
 

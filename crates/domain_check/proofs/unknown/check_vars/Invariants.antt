@@ -1,5 +1,5 @@
 use Rattle.std.proofs.Common.{◌≡◌, flat_map, drop}
-use Rattle.hs_base.specs.MissionRefusals.{unknown_in_var}
+use Rattle.hs_texts.specs.MissionRefusals.{unknown_in_var}
 use Rattle.domain_check.proofs.unknown.check_vars.Given as goal
 
 abbrev pub invariant-loop-i : goal.invariant-loop-i

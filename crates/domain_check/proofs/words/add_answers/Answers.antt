@@ -1,6 +1,6 @@
 use Rattle.std.proofs.Common.{◌∙◌, ap, List}
-use Rattle.hs_base.specs.declared.ast.AstSaid.{AstSaid}
-use Rattle.hs_base.specs.MissionMeaning.{first_seen}
+use Rattle.hs_texts.specs.declared.ast.AstSaid.{AstSaid}
+use Rattle.hs_texts.specs.MissionMeaning.{first_seen}
 use Rattle.domain_check.specs.Tables.{names_in, words_said}
 use Rattle.domain_check.proofs.LoopLemmas.{seen_at}
 use Rattle.domain_check.proofs.words.add_answers.Goals as goal

@@ -1,5 +1,5 @@
 use Rattle.std.proofs.Common.{◌≡◌, flat_map, drop}
-use Rattle.hs_base.specs.MissionMeaning.{first_seen}
+use Rattle.hs_texts.specs.MissionMeaning.{first_seen}
 use Rattle.domain_check.specs.Tables.{names_in}
 use Rattle.domain_check.specs.Tables.{words_said}
 use Rattle.domain_check.proofs.words.add_answers.Given as goal

@@ -1,5 +1,5 @@
 use Rattle.std.proofs.Common.{◌≡◌, map, drop}
-use Rattle.hs_base.specs.MissionMeaning.{first_seen, step_word}
+use Rattle.hs_texts.specs.MissionMeaning.{first_seen, step_word}
 use Rattle.domain_check.specs.Tables.{names_in}
 use Rattle.domain_check.proofs.words.add_steps.Given as goal
 

@@ -1,7 +1,7 @@
 use Rattle.std.proofs.Common.{◌≡◌, ◌∙◌, ap, sym, subst, List, ℕ, map, flat_map, OnOk}
-use Rattle.hs_base.specs.declared.ast.AstSaid.{AstSaid}
-use Rattle.hs_base.specs.declared.ast.AstStep.{AstStep}
-use Rattle.hs_base.specs.MissionMeaning.{first_seen, step_word}
+use Rattle.hs_texts.specs.declared.ast.AstSaid.{AstSaid}
+use Rattle.hs_texts.specs.declared.ast.AstStep.{AstStep}
+use Rattle.hs_texts.specs.MissionMeaning.{first_seen, step_word}
 use Rattle.domain_check.specs.Tables.{names_in, words_said}
 use Rattle.domain_check.proofs.LoopLemmas.{first_seen-append}
 use Rattle.domain_check.proofs.words.add_value.Goals as goal

@@ -1,5 +1,5 @@
 use Rattle.std.proofs.Common.{◌∙◌}
-use Rattle.hs_base.specs.MissionMeaning.{words_of_value}
+use Rattle.hs_texts.specs.MissionMeaning.{words_of_value}
 use Rattle.domain_check.specs.Tables.{names_in}
 use Rattle.domain_check.proofs.LoopLemmas.{seen_at}
 use Rattle.domain_check.proofs.words.add_values.Goals as goal

@@ -1,5 +1,5 @@
 use Rattle.std.proofs.Common.{◌≡◌, flat_map, drop}
-use Rattle.hs_base.specs.MissionMeaning.{first_seen, words_of_value}
+use Rattle.hs_texts.specs.MissionMeaning.{first_seen, words_of_value}
 use Rattle.domain_check.specs.Tables.{names_in}
 use Rattle.domain_check.proofs.words.add_values.Given as goal
 

@@ -1,7 +1,7 @@
 use Rattle.std.proofs.Common.{◌∙◌, ap, List, flat_map}
-use Rattle.hs_base.specs.declared.ast.AstValue.{AstValue}
-use Rattle.hs_base.specs.declared.ast.AstVar.{AstVar}
-use Rattle.hs_base.specs.MissionMeaning.{first_seen, words_of_value}
+use Rattle.hs_texts.specs.declared.ast.AstValue.{AstValue}
+use Rattle.hs_texts.specs.declared.ast.AstVar.{AstVar}
+use Rattle.hs_texts.specs.MissionMeaning.{first_seen, words_of_value}
 use Rattle.domain_check.specs.Tables.{names_in}
 use Rattle.domain_check.proofs.LoopLemmas.{seen_at}
 use Rattle.domain_check.proofs.words.add_vars.Goals as goal

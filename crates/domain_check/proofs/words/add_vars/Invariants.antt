@@ -1,7 +1,7 @@
 use Rattle.std.proofs.Common.{◌≡◌, flat_map, drop}
-use Rattle.hs_base.specs.MissionMeaning.{first_seen, words_of_value}
+use Rattle.hs_texts.specs.MissionMeaning.{first_seen, words_of_value}
 use Rattle.domain_check.specs.Tables.{names_in}
-use Rattle.hs_base.specs.declared.ast.AstVar.{AstVar}
+use Rattle.hs_texts.specs.declared.ast.AstVar.{AstVar}
 use Rattle.domain_check.proofs.words.add_vars.Given as goal
 
 abbrev pub invariant-loop-var : goal.invariant-loop-var

@@ -2,7 +2,7 @@ use Rattle.std.proofs.Common.{◌≡◌, ◌<◌, take, length, get_or, sym, sub
 use Rattle.std.proofs.lemmas.List.{get_or_default}
 use Rattle.std.proofs.lemmas.Bool.{cases_lt}
 use Rattle.hs_base.specs.declared.plan.Extension.{Extension}
-use Rattle.hs_base.specs.Machine.{AgreeOn}
+use Rattle.hs_machine.specs.Machine.{AgreeOn}
 use Rattle.exec_core.proofs.NextLemmas.{agree_at, agree_left, agree_right}
 use Rattle.exec_core.proofs.next.agree_on.Goals as goal
 

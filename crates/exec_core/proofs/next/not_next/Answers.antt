@@ -1,7 +1,7 @@
 use Rattle.std.proofs.Common.{◌≡◌, List, [], length, refl, sym, ap, subst, arith}
 use Rattle.std.proofs.lemmas.Bool.Decides.{nat_tests}
 use Rattle.hs_base.specs.declared.plan.Extension.{Extension}
-use Rattle.hs_base.specs.Machine.{AgreeOn, base_of}
+use Rattle.hs_machine.specs.Machine.{AgreeOn, base_of}
 use Rattle.exec_core.proofs.NextLemmas.{agree_none, agree_whole, agree_self, agree_at_most, empty_of}
 use Rattle.exec_core.proofs.next.not_next.Goals as goal
 use Rattle.exec_core.proofs.next.not_next.Goals.{else-agree-newest-via-then-agree-newest+else-agree-base, else-agree-newest-via-else-agree-newest}

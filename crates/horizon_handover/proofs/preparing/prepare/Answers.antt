@@ -6,7 +6,7 @@ use Rattle.hs_base.specs.Points.{count, is_observed}
 use Rattle.hs_base.specs.Network.{spread}
 use Rattle.hs_base.specs.Reduced.{IsReducedOf}
 use Rattle.hs_base.specs.Dispatch.{IsReached}
-use Rattle.hs_base.specs.State.{times_of, executed}
+use Rattle.hs_machine.specs.State.{times_of, executed}
 use Rattle.dispatcher.specs.State.{State, begun}
 use Rattle.plan_check.specs.Planned.{Planned}
 use Rattle.horizon_handover.specs.Offers.{IsDispatchOf, IsLast}

@@ -3,10 +3,10 @@ use Rattle.std.specs.Fmt.{decimal, signed_decimal}
 use Rattle.hs_base.specs.declared.mission.Mission.{Mission}
 use Rattle.hs_base.specs.declared.plan.Extension.{Extension}
 use Rattle.hs_base.specs.declared.net.Bound.{Bound}
-use Rattle.hs_base.specs.declared.history.Deed.TheVariants.{Stale}
+use Rattle.hs_machine.specs.declared.history.Deed.TheVariants.{Stale}
 use Rattle.hs_base.specs.Points.{Point, points_of}
-use Rattle.hs_base.specs.Written.{bound_in, body_in}
-use Rattle.hs_base.specs.LogText.{at_text, deed_text}
+use Rattle.hs_texts.specs.Written.{bound_in, body_in}
+use Rattle.log_laws.specs.LogText.{at_text, deed_text}
 use Rattle.plan_text.specs.Named.{with_extension}
 use Rattle.plan_text.proofs.NamedLemmas.{with_extension-points_of}
 use Rattle.journal_text.proofs.deeds.push_deed.Goals as goal

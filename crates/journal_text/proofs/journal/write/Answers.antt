@@ -1,7 +1,7 @@
 use Rattle.std.proofs.Common.{length, take, ap, arith, codes, refl}
 use Rattle.std.proofs.lemmas.List.{length-take-le}
-use Rattle.hs_base.specs.State.{plan_of}
-use Rattle.hs_base.specs.LogText.{deed_text, entry_text}
+use Rattle.hs_machine.specs.State.{plan_of}
+use Rattle.log_laws.specs.LogText.{deed_text, entry_text}
 use Rattle.plan_text.proofs.WalkLemmas.{join_after-next, take-next}
 use Rattle.journal_text.proofs.StandLemmas.{now_of-le, count-take, fewer-handed}
 use Rattle.journal_text.proofs.journal.write.Goals as goal

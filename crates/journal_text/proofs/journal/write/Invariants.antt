@@ -1,6 +1,6 @@
 use Rattle.std.proofs.Common.{◌≡◌, ◌++◌, [], take, codes}
 use Rattle.hs_base.specs.Walks.{join_after}
-use Rattle.hs_base.specs.LogText.{entry_text}
+use Rattle.log_laws.specs.LogText.{entry_text}
 use Rattle.journal_text.specs.Stands.{StandsAt}
 use Rattle.journal_text.proofs.journal.write.Given as goal
 

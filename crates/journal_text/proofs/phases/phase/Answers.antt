@@ -1,6 +1,6 @@
 use Rattle.std.proofs.Common.{◌≡◌, false, cond, ap, sym, ◌∙◌}
-use Rattle.hs_base.specs.declared.history.Phase.TheVariants.{Running, Ended}
-use Rattle.hs_base.specs.State.{has_failed}
+use Rattle.hs_machine.specs.declared.history.Phase.TheVariants.{Running, Ended}
+use Rattle.hs_machine.specs.State.{has_failed}
 use Rattle.journal_text.proofs.PhaseLemmas.{phase-with_plan}
 use Rattle.journal_text.proofs.phases.phase.Goals as goal
 

@@ -1,5 +1,5 @@
 use Rattle.std.proofs.Common.{◌≡◌, ◌++◌, flat_map, take}
-use Rattle.hs_base.specs.Written.{fix_line}
+use Rattle.hs_texts.specs.Written.{fix_line}
 use Rattle.plan_text.proofs.body.push_fixed.Given as goal
 
 abbrev pub invariant-loop-time : goal.invariant-loop-time

@@ -1,5 +1,5 @@
 use Rattle.std.proofs.Common.{◌≡◌, ◌++◌, drop}
-use Rattle.hs_base.specs.Written.{goal_lines}
+use Rattle.hs_texts.specs.Written.{goal_lines}
 use Rattle.plan_text.proofs.body.push_goals.Given as goal
 
 abbrev pub invariant-loop-number : goal.invariant-loop-number

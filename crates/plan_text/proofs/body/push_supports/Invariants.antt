@@ -1,5 +1,5 @@
 use Rattle.std.proofs.Common.{◌≡◌, ◌++◌, flat_map, take}
-use Rattle.hs_base.specs.Written.{support_line}
+use Rattle.hs_texts.specs.Written.{support_line}
 use Rattle.plan_text.proofs.body.push_supports.Given as goal
 
 abbrev pub invariant-loop-support : goal.invariant-loop-support

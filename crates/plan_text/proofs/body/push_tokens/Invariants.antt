@@ -1,5 +1,5 @@
 use Rattle.std.proofs.Common.{◌≡◌, ◌++◌, flat_map, take}
-use Rattle.hs_base.specs.Written.{token_line}
+use Rattle.hs_texts.specs.Written.{token_line}
 use Rattle.plan_text.proofs.body.push_tokens.Given as goal
 
 abbrev pub invariant-loop-token : goal.invariant-loop-token

@@ -1,6 +1,6 @@
 use Rattle.plan_text.proofs.PlanAnswerLemmas.{spelled_or_refusal, plan_one}
 use Rattle.plan_text.proofs.SpellingLemmas.{written_back}
-use Rattle.hs_base.specs.PlanText.{plan_text}
+use Rattle.hs_texts.specs.PlanText.{plan_text}
 use Rattle.plan_text.proofs.laws.plans_are_read_back.Goals as goal
 
 pub returns : goal.returns

@@ -1,5 +1,5 @@
 use Rattle.std.proofs.Common.{◌≡◌, ◌++◌, flat_map, take}
-use Rattle.hs_base.specs.NetText.{edge_line}
+use Rattle.hs_texts.specs.NetText.{edge_line}
 use Rattle.plan_text.proofs.nets.push_edges.Given as goal
 
 abbrev pub invariant-loop-edge : goal.invariant-loop-edge

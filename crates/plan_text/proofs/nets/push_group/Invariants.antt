@@ -1,5 +1,5 @@
 use Rattle.std.proofs.Common.{◌≡◌, ◌++◌, flat_map, take}
-use Rattle.hs_base.specs.NetText.{member_line}
+use Rattle.hs_texts.specs.NetText.{member_line}
 use Rattle.plan_text.proofs.nets.push_group.Given as goal
 
 abbrev pub invariant-loop-member : goal.invariant-loop-member

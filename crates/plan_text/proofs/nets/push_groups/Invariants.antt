@@ -1,5 +1,5 @@
 use Rattle.std.proofs.Common.{◌≡◌, ◌++◌, flat_map, take}
-use Rattle.hs_base.specs.NetText.{group_lines}
+use Rattle.hs_texts.specs.NetText.{group_lines}
 use Rattle.plan_text.proofs.nets.push_groups.Given as goal
 
 abbrev pub invariant-loop-group : goal.invariant-loop-group

@@ -2,7 +2,7 @@ use Rattle.std.proofs.Common.{◌≡◌, ◌≤◌, ◌++◌, ◌∷◌, [], ℕ
 use Rattle.std.proofs.lemmas.Grind.{common_steps}
 use Rattle.hs_base.specs.declared.limits.TheConstants.{TEXT_BYTES}
 use Rattle.hs_base.specs.Points.{points_of}
-use Rattle.hs_base.specs.PlanText.{extension_in, extension_text, plan_text}
+use Rattle.hs_texts.specs.PlanText.{extension_in, extension_text, plan_text}
 use Rattle.plan_text.proofs.WalkLemmas.{join_after-next, take-next}
 use Rattle.plan_text.specs.PlanSpelling.{PlanSpells}
 use Rattle.plan_text.proofs.NamedLemmas.{fewer-next}

@@ -1,7 +1,7 @@
 use Rattle.std.proofs.Common.{◌≡◌, ◌++◌, [], take, codes}
 use Rattle.hs_base.specs.Walks.{join_after}
 use Rattle.hs_base.specs.Points.{points_of}
-use Rattle.hs_base.specs.PlanText.{extension_text}
+use Rattle.hs_texts.specs.PlanText.{extension_text}
 use Rattle.plan_text.proofs.plans.write.Given as goal
 
 abbrev pub invariant-loop-extension : goal.invariant-loop-extension

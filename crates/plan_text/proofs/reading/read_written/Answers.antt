@@ -1,5 +1,5 @@
 use Rattle.std.proofs.Common.{◌≡◌, ◌+◌, ◌-◌, length, map, ap, sym, ◌∙◌, arith}
-use Rattle.hs_base.specs.Pieces.{place_in}
+use Rattle.hs_texts.specs.Pieces.{place_in}
 use Rattle.ddl_read.specs.Spelled.{placed}
 use Rattle.ddl_read.proofs.CutLemmas.{few_pieces}
 use Rattle.plan_text.specs.PlanReading.{plan_at}

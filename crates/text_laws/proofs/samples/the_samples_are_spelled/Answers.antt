@@ -1,6 +1,6 @@
 use Rattle.std.proofs.Common.{◌≡◌, [], refl}
 use Rattle.hs_base.specs.Names.{is_name}
-use Rattle.hs_base.specs.MissionText.{MissionText}
+use Rattle.hs_texts.specs.MissionText.{MissionText}
 use Rattle.text_laws.specs.Parsers.{done, many}
 use Rattle.text_laws.specs.MissionReading.{version_at, name_at, limit_at, range_at, use_at, kind_at, uses_at, next_at, do_at, until_at, part_at, parts_at, script_at, said_at, answers_at, plain_at, device_at, value_at, some_use_at, begin_at, var_at, one_range, two_ranges, relation_at, choice_at, further_at, choices_at, need_at, goal_at, horizon_at, clauses_at, mission_at}
 use Rattle.text_laws.specs.Samples.{smallest_pieces, smallest, camera_pieces, camera}

@@ -1,4 +1,4 @@
-use Rattle.hs_base.specs.CanonicalText.{canonical}
+use Rattle.hs_texts.specs.CanonicalText.{canonical}
 use Rattle.text_laws.proofs.WritableLemmas.{spelled_writable}
 use Rattle.text_laws.proofs.PrintedLemmas.{canonical_spells}
 use Rattle.text_laws.proofs.RefusalLemmas.{spelled_one}

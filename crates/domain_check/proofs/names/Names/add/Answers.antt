@@ -2,7 +2,7 @@ use Rattle.std.proofs.Common.{◌∙◌, ◌++◌, ◌∷◌, [], ap, List, ℕ,
 use Rattle.std.specs.List.{list_any}
 use Rattle.std.specs.Str.{bytes_eq}
 use Rattle.std.specs.Borrow.{Bor}
-use Rattle.hs_base.specs.MissionRefusals.{is_among}
+use Rattle.hs_texts.specs.MissionRefusals.{is_among}
 use Rattle.domain_check.proofs.NumberLemmas.{among_keys, names_inserted, names_of_keys}
 use Rattle.domain_check.proofs.names.Names.add.Goals as goal
 

@@ -1,8 +1,8 @@
 use Rattle.std.proofs.Common.{◌≡◌, [], map, take, drop}
 use Rattle.hs_base.specs.Walks.{join_after}
-use Rattle.hs_base.specs.MissionRefusals.{var_again}
+use Rattle.hs_texts.specs.MissionRefusals.{var_again}
 use Rattle.domain_check.specs.Tables.{names_in}
-use Rattle.hs_base.specs.MissionMeaning.{var_names, value_names}
+use Rattle.hs_texts.specs.MissionMeaning.{var_names, value_names}
 use Rattle.domain_check.proofs.tables.Tables.new.Given as goal
 
 abbrev pub invariant-loop-var : goal.invariant-loop-var

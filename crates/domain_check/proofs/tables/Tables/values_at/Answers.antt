@@ -1,6 +1,6 @@
 use Rattle.std.proofs.Common.{◌∙◌, ap}
-use Rattle.hs_base.specs.declared.ast.AstVar.{AstVar}
-use Rattle.hs_base.specs.MissionMeaning.{value_names}
+use Rattle.hs_texts.specs.declared.ast.AstVar.{AstVar}
+use Rattle.hs_texts.specs.MissionMeaning.{value_names}
 use Rattle.domain_check.specs.Tables.{names_in}
 use Rattle.domain_check.proofs.NumberLemmas.{get_or-same_images}
 use Rattle.domain_check.proofs.tables.Tables.values_at.Goals as goal

@@ -1,6 +1,6 @@
 use Rattle.std.proofs.Common.{◌≡◌, ◌∙◌, ◌<◌, ◌≤◌, ap, subst, ℕ, List, length, get_or}
-use Rattle.hs_base.specs.declared.ast.AstVar.{AstVar}
-use Rattle.hs_base.specs.MissionMeaning.{var_names, value_names}
+use Rattle.hs_texts.specs.declared.ast.AstVar.{AstVar}
+use Rattle.hs_texts.specs.MissionMeaning.{var_names, value_names}
 use Rattle.domain_check.specs.Numbering.{number_in}
 use Rattle.domain_check.specs.Tables.{names_in}
 use Rattle.domain_check.proofs.NumberLemmas.{named_within, named_beyond}

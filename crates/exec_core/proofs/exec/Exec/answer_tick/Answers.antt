@@ -1,5 +1,5 @@
 use Rattle.std.proofs.Common.{sym, subst}
-use Rattle.hs_base.specs.Machine.{Replies, tick}
+use Rattle.hs_machine.specs.Machine.{Replies, tick}
 use Rattle.exec_core.specs.Replies.{reply_of}
 use Rattle.exec_core.specs.declared.reply.Reply.{Reply}
 use Rattle.exec_core.proofs.LawfulLemmas.{not_running, tick_lawful}

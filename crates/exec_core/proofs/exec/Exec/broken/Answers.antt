@@ -1,6 +1,6 @@
 use Rattle.std.proofs.Common.{refl, ap}
-use Rattle.hs_base.specs.declared.history.Deed.TheVariants.{Broken}
-use Rattle.hs_base.specs.Machine.{broken}
+use Rattle.hs_machine.specs.declared.history.Deed.TheVariants.{Broken}
+use Rattle.hs_machine.specs.Machine.{broken}
 use Rattle.exec_core.specs.Replies.{reply_of}
 use Rattle.exec_core.proofs.LawfulLemmas.{turn_by}
 use Rattle.exec_core.proofs.exec.Exec.broken.Goals as goal

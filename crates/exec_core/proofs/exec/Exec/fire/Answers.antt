@@ -1,6 +1,6 @@
 use Rattle.std.proofs.Common.{refl, ap}
-use Rattle.hs_base.specs.declared.history.Deed.TheVariants.{Fire}
-use Rattle.hs_base.specs.Machine.{fire}
+use Rattle.hs_machine.specs.declared.history.Deed.TheVariants.{Fire}
+use Rattle.hs_machine.specs.Machine.{fire}
 use Rattle.exec_core.specs.Replies.{reply_of}
 use Rattle.exec_core.proofs.LawfulLemmas.{turn_by}
 use Rattle.exec_core.proofs.exec.Exec.fire.Goals as goal

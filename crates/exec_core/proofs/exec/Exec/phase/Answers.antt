@@ -1,6 +1,6 @@
 use Rattle.std.proofs.Common.{◌≡◌, true, false, sym, subst}
-use Rattle.hs_base.specs.State.{phase_of}
-use Rattle.hs_base.specs.declared.history.Phase.TheVariants.{Running, Ended}
+use Rattle.hs_machine.specs.State.{phase_of}
+use Rattle.hs_machine.specs.declared.history.Phase.TheVariants.{Running, Ended}
 use Rattle.exec_core.specs.Recorded.{Recorded}
 use Rattle.exec_core.proofs.KeptLemmas.{mark_in, phase_if_flying}
 use Rattle.exec_core.proofs.exec.Exec.phase.Goals as goal

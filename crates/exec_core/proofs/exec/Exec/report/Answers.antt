@@ -1,6 +1,6 @@
 use Rattle.std.proofs.Common.{refl, ap, sym}
-use Rattle.hs_base.specs.declared.history.Deed.TheVariants.{Report, Early}
-use Rattle.hs_base.specs.Machine.{report, failed}
+use Rattle.hs_machine.specs.declared.history.Deed.TheVariants.{Report, Early}
+use Rattle.hs_machine.specs.Machine.{report, failed}
 use Rattle.exec_core.specs.Replies.{reply_of}
 use Rattle.exec_core.proofs.LawfulLemmas.{turn_by, may_leave, early_from}
 use Rattle.exec_core.proofs.exec.Exec.report.Goals as goal

@@ -1,10 +1,10 @@
 use Rattle.std.proofs.Common.{◌≡◌, ◌+◌, ◌-◌, ◌++◌, ◌∷◌, [], List, length, Some, None, refl, sym, ap, ◌∙◌, subst, arith}
 use Rattle.std.proofs.lemmas.Int.{ints}
 use Rattle.std.specs.Prelude.{is_ok, vec_capacity, slice_get}
-use Rattle.hs_base.specs.declared.history.Deed.TheVariants.{Handover}
+use Rattle.hs_machine.specs.declared.history.Deed.TheVariants.{Handover}
 use Rattle.hs_base.specs.Points.{count, hor}
-use Rattle.hs_base.specs.declared.history.Entry.{Entry}
-use Rattle.hs_base.specs.Machine.{Turn, handover, done}
+use Rattle.hs_machine.specs.declared.history.Entry.{Entry}
+use Rattle.hs_machine.specs.Machine.{Turn, handover, done}
 use Rattle.plan_check.specs.Planned.{Planned}
 use Rattle.dispatcher.proofs.KeptLemmas.{none_from}
 use Rattle.horizon_handover.specs.Offers.{IsLast}

@@ -1,6 +1,6 @@
 use Rattle.std.proofs.Common.{refl, ap}
-use Rattle.hs_base.specs.declared.history.Deed.TheVariants.{Tick, Late}
-use Rattle.hs_base.specs.Machine.{tick, failed}
+use Rattle.hs_machine.specs.declared.history.Deed.TheVariants.{Tick, Late}
+use Rattle.hs_machine.specs.Machine.{tick, failed}
 use Rattle.exec_core.specs.Replies.{reply_of}
 use Rattle.exec_core.proofs.LawfulLemmas.{turn_by, may_leave}
 use Rattle.exec_core.proofs.exec.Exec.tick.Goals as goal

@@ -1,6 +1,6 @@
 use Rattle.std.proofs.Common.{◌≡◌, ◌+◌, ◌++◌, ◌∷◌, [], ap, arith}
 use Rattle.hs_base.specs.Points.{points_of}
-use Rattle.hs_base.specs.State.{hands_over, plan_of}
+use Rattle.hs_machine.specs.State.{hands_over, plan_of}
 use Rattle.journal_text.proofs.StandLemmas.{stands-tick, stands-handover, stands-other}
 use Rattle.journal_text.proofs.progress.Progress.take_in.Goals as goal
 

@@ -1,0 +1,16 @@
+pub mod Types
+pub mod Written
+pub mod PlanText
+pub mod NetText
+pub mod Pieces
+pub mod Languages
+pub mod MissionText
+pub mod CanonicalText
+pub mod MissionMeaning
+pub mod MissionRefusals
+pub mod MissionSpelling
+pub mod RefusalText
+pub mod ClosingText
+pub mod WrittenPlan
+pub mod WrittenRules
+pub mod PlanSpelling

@@ -1,0 +1,14 @@
+//! What texts say: written missions, refusals, and the definitions that contracts cite of texts:
+//! pieces, grammars, meanings and written forms.
+#![tactic(auto)]
+
+mod ast;
+mod refusal;
+mod text;
+
+pub use ast::{
+    Arg, Ast, AstChoice, AstGoal, AstHorizon, AstKind, AstNeed, AstSaid, AstStep, AstValue, AstVar,
+    Param, Sort, Use,
+};
+pub use refusal::Refusal;
+pub use text::Text;

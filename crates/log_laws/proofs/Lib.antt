@@ -1,0 +1,2 @@
+pub mod LogPrintedLemmas
+pub mod LogSpellingLemmas

@@ -1,0 +1,3 @@
+pub mod LogText
+pub mod WrittenLog
+pub mod WritableLogs

@@ -1,0 +1,6 @@
+//! What the text of a history says, and that it is a sentence of its grammar.
+#![tactic(auto)]
+
+mod logs;
+
+pub use logs::log_texts_are_sentences;

@@ -1,0 +1,8 @@
+//! Laws of the runs of the schedule machine, over the definitions alone.
+#![tactic(auto)]
+
+mod runs;
+mod samples;
+
+pub use runs::{each_point_is_executed_once, some_schedule_fits};
+pub use samples::the_camera_run_has_its_state;

@@ -1,5 +1,0 @@
-use Rattle.text_laws.proofs.LogSpellingLemmas.{log_is_text}
-use Rattle.text_laws.proofs.logs.log_texts_are_sentences.Goals as goal
-
-pub returns : goal.returns
-returns c = log_is_text
