@@ -5,8 +5,6 @@ mod closing;
 mod faults;
 mod lines;
 mod refusals;
-#[cfg(test)]
-mod tests;
 
 pub use closing::{push_budget, push_checked, push_drill, push_no_plan, push_not_one};
 pub use faults::{fault_line, push_fault};

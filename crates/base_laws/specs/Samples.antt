@@ -49,8 +49,11 @@ smallest = record {
 }
 
 -- its plan
+abbrev pub smallest_extension : Extension
+smallest_extension = record { base = 0; since = pos 0; fixed = []; tokens = kind 0 0 ∷ kind 0 1 ∷ []; supports = []; goals = [] }
+
 abbrev pub smallest_plan : List Extension
-smallest_plan = record { base = 0; since = pos 0; fixed = []; tokens = kind 0 0 ∷ kind 0 1 ∷ []; supports = []; goals = [] } ∷ []
+smallest_plan = smallest_extension ∷ []
 
 -- the camera mission: a camera that has to shoot while the attitude is at the comet
 abbrev pub camera : Mission

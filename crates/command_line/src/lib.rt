@@ -10,5 +10,3 @@ pub use request::{Command, Request};
 pub use unasked::Unasked;
 pub use words::words_of;
 
-#[cfg(test)]
-mod tests;

@@ -9,8 +9,6 @@ mod planning;
 mod printing;
 mod simulation;
 mod status;
-#[cfg(test)]
-mod tests;
 
 pub use checking::check;
 pub use laws::{

@@ -4,8 +4,6 @@
 mod applying;
 mod flaw;
 mod listing;
-#[cfg(test)]
-mod tests;
 
 pub use applying::apply;
 pub use flaw::first_flaw;

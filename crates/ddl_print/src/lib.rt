@@ -6,8 +6,6 @@ mod missions;
 mod needs;
 mod parts;
 mod scripts;
-#[cfg(test)]
-mod tests;
 mod values;
 
 pub use missions::print;

@@ -24,5 +24,3 @@ pub use reader::Reader;
 pub use reading::{read, read_front};
 pub use unread::Unread;
 
-#[cfg(test)]
-mod tests;

@@ -9,4 +9,3 @@ pub mod InsideLemmas
 pub mod TieLemmas
 pub mod MarkedLemmas
 pub mod HoldingLemmas
-pub mod SampleLemmas

@@ -7,8 +7,6 @@ mod dispatch;
 mod groups;
 mod marks;
 mod places;
-#[cfg(test)]
-mod tests;
 mod times;
 mod waits;
 

@@ -11,8 +11,6 @@ mod names;
 mod needs;
 mod ranges;
 mod tables;
-#[cfg(test)]
-mod tests;
 mod twice;
 mod unknown;
 mod values;

@@ -6,8 +6,6 @@ mod filter;
 mod reduction;
 mod reformed;
 mod side;
-#[cfg(test)]
-mod tests;
 mod weights;
 
 pub use filter::keep;

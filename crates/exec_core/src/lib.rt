@@ -8,8 +8,6 @@ mod flight;
 mod kernel;
 mod next;
 mod reply;
-#[cfg(test)]
-mod tests;
 
 pub use event::Event;
 pub use exec::Exec;

@@ -12,7 +12,7 @@ use Rattle.hs_machine.specs.State.{count_at, executed, phase_of, executes, is_fa
 use Rattle.hs_machine.specs.Machine.{Event, fire, report, done, over, no_net, no_point, failed, RefusedIf, PointReply, Replies, IsLeftBy, MayFire, is_over, is_waiting, needs_net}
 use Rattle.hs_machine.specs.Machine as machine
 use Rattle.run_laws.proofs.RunLemmas.{otherwise}
-use Rattle.plan_laws.proofs.RunLemmas as run
+use Rattle.run_laws.proofs.RunLemmas as run
 
 -- what is answered otherwise than by Over is not over
 pub not_over : (m : Mission) (h : List Entry) (event : Event) (reply : machine.Reply) → Replies m h event reply → reply ≢ over → is_over (phase_of h) ≡ false

@@ -11,5 +11,3 @@ pub use laws::{
 };
 pub use top::ground;
 
-#[cfg(test)]
-mod tests;

@@ -3,8 +3,6 @@
 
 mod offer;
 mod preparing;
-#[cfg(test)]
-mod tests;
 
 pub use offer::{Handed, Live, Offer};
 pub use preparing::prepare;

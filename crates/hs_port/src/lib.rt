@@ -37,5 +37,3 @@ pub use sure_clock::SureClock;
 pub use sure_sink::SureSink;
 pub use sure_source::SureSource;
 
-#[cfg(test)]
-mod tests;

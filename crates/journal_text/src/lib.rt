@@ -5,7 +5,5 @@ mod deeds;
 mod journal;
 mod phases;
 mod progress;
-#[cfg(test)]
-mod tests;
 
 pub use journal::write;

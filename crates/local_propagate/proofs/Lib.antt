@@ -5,4 +5,3 @@ pub mod NarrowLemmas
 pub mod SettingLemmas
 pub mod WindowsLemmas
 pub mod FreshLemmas
-pub mod SampleLemmas

@@ -2,4 +2,3 @@ pub mod Tournament
 pub mod Joined
 pub mod Narrowed
 pub mod Windows
-pub mod Samples

@@ -4,8 +4,6 @@
 mod minima;
 mod neighbours;
 mod places;
-#[cfg(test)]
-mod tests;
 mod windows;
 
 pub use minima::Minima;

@@ -14,8 +14,6 @@ mod order;
 mod services;
 mod snapshot;
 mod supports;
-#[cfg(test)]
-mod tests;
 mod timelines;
 
 pub use checked_plan::CheckedPlan;

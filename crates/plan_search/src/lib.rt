@@ -7,8 +7,6 @@ mod found;
 mod frames;
 mod search_loop;
 mod steps;
-#[cfg(test)]
-mod tests;
 mod visiting;
 
 pub use filter::{AllPlans, Filter};

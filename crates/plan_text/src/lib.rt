@@ -14,8 +14,6 @@ mod read_plan;
 mod reader;
 mod reading;
 mod stop;
-#[cfg(test)]
-mod tests;
 mod written;
 mod written_plan;
 

@@ -3,7 +3,5 @@
 
 mod groups;
 mod pairs;
-#[cfg(test)]
-mod tests;
 
 pub use groups::contract;

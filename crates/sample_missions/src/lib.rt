@@ -3,4 +3,4 @@
 
 mod missions;
 
-pub use missions::{camera, camera_extension};
+pub use missions::{camera, camera_extension, smallest, smallest_extension};

@@ -2,10 +2,13 @@ ghost use Rattle.std.specs.Prelude.{◌≡◌, [], ◌∷◌, pos, codes, IfOk};
 ghost use Rattle.hs_base.specs.declared.limits.TheConstants.{LAST};
 ghost use Rattle.hs_base.specs.Missions.{IsMission};
 ghost use Rattle.hs_base.specs.Ranges.{range};
-ghost use Rattle.base_laws.specs.Samples.{camera, camera_extension, device_value, kind, plain_value, token, value_id};
+ghost use Rattle.base_laws.specs.Samples.{camera, camera_extension, device_value, kind, plain_value, smallest, smallest_extension, token, value_id};
 
-use base_laws::the_camera_mission_is_one;
-use hs_base::{Choice, Extension, Goal, Horizon, Kind, LAST, List, Memory, Mission, Name, Need, Range, Relation, Said, Step, Support, SvId, TokenRef, ValId, Value, Var, WordId};
+use base_laws::{the_camera_mission_is_one, the_smallest_mission_is_one};
+use hs_base::{
+    Choice, Extension, Goal, Horizon, Kind, LAST, List, Memory, Mission, Name, Need, Range,
+    Relation, Said, Step, Support, SvId, TokenRef, ValId, Value, Var, WordId,
+};
 use std::alloc::Global;
 
 const WHOLE: Range = Range { low: 0, high: LAST };
@@ -191,5 +194,56 @@ pub fn camera_extension(alloc: Global) -> Result<Extension, Memory>
         tokens: camera_tokens(alloc)?,
         supports,
         goals,
+    })
+}
+
+fn smallest_values(alloc: Global) -> Result<List<Value>, Memory>
+    ensures { IfOk result (λ values. values ≡ plain_value (codes "p") (range (pos 2) (pos 4)) (value_id 1 ∷ []) ∷ plain_value (codes "q") (range (pos 1) LAST) [] ∷ []) }
+{
+    let mut values = List::new(alloc);
+    values.push(value(alloc, b"p", 2, 4, &[ValId(1)])?)?;
+    values.push(value(alloc, b"q", 1, LAST, &[])?)?;
+    Ok(values)
+}
+
+/// The smallest mission: one variable with two values.
+pub fn smallest(alloc: Global) -> Result<Mission, Memory>
+    ensures smallest { IfOk result (λ m. m ≡ smallest) }
+    ensures mission { IfOk result IsMission }
+{
+    the_smallest_mission_is_one();
+    let mut vars = List::new(alloc);
+    vars.push(var(alloc, b"a", smallest_values(alloc)?)?)?;
+    let mut horizons = List::new(alloc);
+    horizons.push(Horizon {
+        tick: 10,
+        goals: List::new(alloc),
+    })?;
+    let mut words = List::new(alloc);
+    words.push(Name::from_bytes(alloc, b"done")?)?;
+    Ok(Mission {
+        vars,
+        needs: List::new(alloc),
+        horizons,
+        words,
+    })
+}
+
+/// The smallest mission's plan, which has one extension: a token of each value. Its points 0 to 3
+/// are Z, the horizon at 10, the end of the first token at 2 to 4, and that of the second, past the
+/// horizon.
+pub fn smallest_extension(alloc: Global) -> Result<Extension, Memory>
+    ensures { IfOk result (λ e. e ≡ smallest_extension) }
+{
+    let mut tokens = List::new(alloc);
+    tokens.push(kind(0, 0))?;
+    tokens.push(kind(0, 1))?;
+    Ok(Extension {
+        base: 0,
+        since: 0,
+        fixed: List::new(alloc),
+        tokens,
+        supports: List::new(alloc),
+        goals: List::new(alloc),
     })
 }

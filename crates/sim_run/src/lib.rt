@@ -2,7 +2,5 @@
 #![tactic(auto)]
 
 mod flight;
-#[cfg(test)]
-mod tests;
 
 pub use flight::fly;

@@ -10,8 +10,6 @@ mod lowering;
 mod nearest;
 mod rows;
 mod search;
-#[cfg(test)]
-mod tests;
 mod trace;
 
 pub use broken::Broken;

@@ -10,8 +10,6 @@ mod row;
 mod settle;
 mod solving;
 mod spread;
-#[cfg(test)]
-mod tests;
 mod times;
 mod trail;
 

@@ -20,7 +20,6 @@ pub mod OutsetLemmas
 pub mod OwnLemmas
 pub mod PictureLemmas
 pub mod SameLemmas
-pub mod SampleLemmas
 pub mod ServeLemmas
 pub mod SettleLemmas
 pub mod StepLemmas

@@ -17,4 +17,3 @@ pub mod Laying
 pub mod Waiting
 pub mod Databases
 pub mod Drafts
-pub mod Samples

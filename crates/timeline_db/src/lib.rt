@@ -20,8 +20,6 @@ mod serving;
 mod shut;
 mod standing;
 mod supporting;
-#[cfg(test)]
-mod tests;
 mod token;
 mod undoing;
 

@@ -3,4 +3,3 @@ pub mod ItemLemmas
 pub mod TableLemmas
 pub mod GrowthLemmas
 pub mod RowLemmas
-pub mod SampleLemmas

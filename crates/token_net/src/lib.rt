@@ -7,8 +7,6 @@ mod items;
 mod lookups;
 mod numbers;
 mod table;
-#[cfg(test)]
-mod tests;
 
 pub use bounding::bounds;
 pub use numbers::{end_of, horizon_point, observed, points, start_of};

@@ -1,0 +1,9 @@
+//! Tests of the outside, the commands and the top call.
+#![tactic(auto)]
+
+#[cfg(test)]
+mod answers;
+#[cfg(test)]
+mod calls;
+#[cfg(test)]
+mod outside;

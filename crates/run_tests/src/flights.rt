@@ -1,0 +1,55 @@
+ghost use Rattle.std.specs.Prelude.{◌≡◌, length, IfOk};
+ghost use Rattle.base_laws.specs.Samples.{smallest};
+
+use hs_base::{Fault, PointId};
+use hs_machine::{Deed, Entry};
+use plan_check::{CheckedPlan, check};
+use sample_missions::{smallest, smallest_extension};
+use sim_run::fly;
+use std::alloc::Global;
+use std::test::Fail;
+
+/// The smallest mission with its plan.
+fn planned(alloc: Global) -> Result<CheckedPlan, Fault>
+    ensures mission { IfOk result (λ p. p.mission ≡ smallest) }
+    ensures one { IfOk result (λ p. length p.plan.extensions ≡ 1) }
+{
+    let base = CheckedPlan::none(alloc, smallest(alloc)?)?;
+    check(alloc, &base, smallest_extension(alloc)?)
+}
+
+/// Whether a plan was handed over first, and then just these deeds were done.
+fn flew(history: &[Entry], deeds: &[Deed]) -> bool {
+    if history.len() != deeds.len() + 1 {
+        return false;
+    }
+    for (i, deed) in deeds.iter().enumerate() {
+        if history[i + 1].deed != *deed {
+            return false;
+        }
+    }
+    matches!(history[0].deed, Deed::Handover { .. })
+}
+
+/// The first token ends at its least, at 2, and the last one not before the horizon.
+#[test]
+fn flies_the_smallest_plan(rt: HostRuntime) -> Result<(), Fail> {
+    let plan = planned(rt.alloc()).map_err(|_| "a fault")?;
+    let exec = fly(rt.alloc(), plan)?;
+    let deeds = [
+        Deed::Tick,
+        Deed::Tick,
+        Deed::Fire(PointId(2)),
+        Deed::Tick,
+        Deed::Tick,
+        Deed::Tick,
+        Deed::Tick,
+        Deed::Tick,
+        Deed::Tick,
+        Deed::Tick,
+        Deed::Tick,
+        Deed::Fire(PointId(1)),
+    ];
+    assert!(rt; flew(exec.history(), &deeds));
+    Ok(())
+}
