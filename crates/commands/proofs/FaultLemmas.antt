@@ -28,7 +28,7 @@ take_next es i e h = rw add-one (take_at es i e h)
 -- the plan with an extension of which a cycle is told has few points
 few_named : (m : Mission) (es : List Extension) (e : Extension) (fault : Fault) → Checked m es → IsFault m es e fault → NamesPoints fault → count (joined es e) < 2 ^ 32
 few_named m es e (Cycle bs) c f named =
-    let tokens = f.0.earlier.earlier.earlier.earlier.earlier.limits.tokens in
+    let tokens = f.0.1.0.tokens in
     let few = few_points m c.mission es c.rules in
     omega (arith, tokens, few, count-push es e)
 few_named m es e (Base g n) c f named = absurd named

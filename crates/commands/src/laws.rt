@@ -1,10 +1,13 @@
 // The laws of what commands make of good inputs.
-ghost use Rattle.std.specs.Prelude.{◌≡◌, ℕ, List, [], length};
+ghost use Rattle.std.specs.Prelude.{◌≡◌, ◌≢◌, ◌⊎◌, ℕ, List, [], length};
 ghost use Rattle.hs_texts.specs.declared.ast.Ast.{Ast};
 ghost use Rattle.hs_base.specs.declared.mission.Mission.{Mission};
 ghost use Rattle.hs_base.specs.declared.plan.Extension.{Extension};
 ghost use Rattle.hs_texts.specs.CanonicalText.{canonical};
-ghost use Rattle.hs_base.specs.Checked.{Checked};
+ghost use Rattle.hs_base.specs.declared.fault.Fault.{Fault};
+ghost use Rattle.hs_base.specs.declared.fault.Fault.TheVariants.{Memory as NoMemoryLeft};
+ghost use Rattle.hs_base.specs.Checked.{schedule, Checked};
+ghost use Rattle.hs_base.specs.Faults.{rule_of};
 ghost use Rattle.hs_texts.specs.ClosingText.{checked_line};
 ghost use Rattle.log_laws.specs.LogText.{log_text};
 ghost use Rattle.search_tree.specs.Tree.{Found};
@@ -13,7 +16,7 @@ ghost use Rattle.commands.specs.Inputs.{IsGiven, IsWhole};
 ghost use Rattle.commands.specs.Plans.{IsNetText, IsPlanText, Nets, Plans};
 ghost use Rattle.commands.specs.Searches.{IsToldOf};
 ghost use Rattle.commands.specs.Prints.{IsAccepted, Prints};
-ghost use Rattle.commands.specs.Checks.{Checks};
+ghost use Rattle.commands.specs.Checks.{IsFlaw, Checks};
 ghost use Rattle.commands.specs.Sims.{IsPlain, IsFlown, Sims};
 ghost use Rattle.commands.specs.declared.status.Status.{Status as StatusOf};
 ghost use Rattle.commands.specs.declared.status.Status.TheVariants.{Done};
@@ -45,4 +48,9 @@ pub fn what_a_search_finds_is_told()
 /// the head of its log is written, and why no plan was found.
 pub fn a_plain_mission_alone_is_flown()
     ensures { (nodes : ℕ) (bytes text : List ℕ) (m : Mission) (found : Found Extension) (status : StatusOf) → IsWhole bytes m → IsPlain m → FindsFirst m nodes found → Sims nodes bytes status text → IsToldOf m (log_text m []) (IsFlown m) found status text }
+{}
+
+/// A plan has one first flaw, but for which negative cycle is named.
+pub fn a_plan_has_one_first_flaw()
+    ensures { (m : Mission) (es : List Extension) (place other : ℕ) (f g : Fault) → f ≢ NoMemoryLeft → g ≢ NoMemoryLeft → IsFlaw m es place f → IsFlaw m es other g → (place ≡ other) × ((f ≡ g) ⊎ ((rule_of f ≡ schedule) × (rule_of g ≡ schedule))) }
 {}

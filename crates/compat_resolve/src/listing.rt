@@ -1,7 +1,6 @@
 ghost use Rattle.std.specs.Prelude.{◌≡◌, [], ◌++◌, ◌<◌, ◌^◌, false, true, flat_map, length, map, nat_eq, IfOk, OnOk};
 ghost use Rattle.std.specs.List.{AllByRecursion, list_any};
 ghost use Rattle.hs_base.specs.declared.ids.ValId.{ValId};
-ghost use Rattle.hs_base.specs.Needs.{is_deferrable, may_wait};
 ghost use Rattle.hs_base.specs.declared.mission.Choice.{Choice};
 ghost use Rattle.search_tree.specs.Flaws.{flaws, slots_from};
 ghost use Rattle.search_tree.specs.May.{IsThere};
@@ -16,7 +15,7 @@ ghost use Rattle.timeline_db.specs.Tracked.{IsLine};
 ghost use Rattle.timeline_db.specs.declared.token.Token.{Token};
 ghost use Rattle.compat_resolve.specs.Listed.{closing, connects, inserts, ways};
 
-use hs_base::{Choice, Kind, List, Memory, Need, Relation, SvId, TokenRef, ValId};
+use hs_base::{Choice, Kind, List, Memory, Need, SvId, TokenRef, ValId};
 use search_tree::{Flaw, Resolver};
 use std::alloc::Global;
 use timeline_db::{Db, Line, Token};
@@ -119,23 +118,6 @@ fn push_follows(list: &mut List<Resolver>, db: &Db, next: &[ValId]) -> Result<()
     Ok(())
 }
 
-/// Whether a relation is to a token that may come in a later plan.
-fn may_wait(relation: Relation) -> bool
-    ensures { result ≡ may_wait relation }
-{
-    matches!(&relation, Relation::Before(_) | Relation::Meets)
-}
-
-/// Whether a need may be left to a later plan.
-fn is_deferrable(need: &Need) -> bool
-    ensures { result ≡ is_deferrable need.now }
-{
-    need.either
-        .as_slice()
-        .iter()
-        .any(|choice| may_wait(choice.relation))
-}
-
 /// Whether the token is the last of its timeline.
 fn is_last(db: &Db, token: TokenRef) -> bool
     ensures { result ≡ is_last (partial_of db.now) token }
@@ -172,7 +154,7 @@ fn push_ways(list: &mut List<Resolver>, db: &Db, token: TokenRef, need: &Need) -
     ensures { OnOk result (list.new ≡ list.old ++ ways db.now.begun (partial_of db.now) token need.now) }
 {
     push_choices(list, db, need.either.as_slice())?;
-    if is_deferrable(need) && is_last(db, token) {
+    if need.is_deferrable() && is_last(db, token) {
         list.push(Resolver::Defer)?;
     }
     Ok(())

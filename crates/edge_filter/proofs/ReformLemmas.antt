@@ -10,6 +10,7 @@ use Rattle.hs_base.specs.Schedule.{Schedule, Meets, Holds}
 use Rattle.hs_base.specs.Points.{count}
 use Rattle.hs_base.specs.Bounds.{fixed_bounds, new_bounds, bounds_of}
 use Rattle.hs_base.specs.Checked.{fixed_of, KeepsRules, Checked}
+use Rattle.hs_base.proofs.RuleLemmas.{limits_kept}
 use Rattle.base_laws.proofs.ListLemmas.{snoc_induction, each_both}
 use Rattle.base_laws.proofs.PointLemmas.{count_is}
 use Rattle.plan_laws.specs.Fit.{IsFit}
@@ -70,4 +71,4 @@ pub few_rows : (m : Mission) (es : List Extension) → Checked m es → count es
 few_rows m es k = snoc_induction (λ es. count es ≤ length (fixed_of es) + 2048) (KeepsRules m) step [] es (omega arith) k.rules
   where
     step : (before : List Extension) (e : Extension) → KeepsRules m before e → count before ≤ length (fixed_of before) + 2048 → count (before ++ e ∷ []) ≤ length (fixed_of (before ++ e ∷ [])) + 2048
-    step before e r old = omega (arith, r.limits.points, count_is (before ++ e ∷ []))
+    step before e r old = omega (arith, (limits_kept r).points, count_is (before ++ e ∷ []))

@@ -17,6 +17,7 @@ use Rattle.hs_base.specs.Bounds.{IsScheduleOf}
 use Rattle.hs_machine.specs.declared.history.Phase.TheVariants.{Waiting, Running, Failed, Ended}
 use Rattle.hs_base.specs.Walks.{EachAfter}
 use Rattle.hs_base.specs.Checked.{KeepsRules, Checked}
+use Rattle.hs_base.proofs.RuleLemmas.{base_kept}
 use Rattle.hs_machine.specs.State.{plan_of, count_at, executed, tick_at, has_failed, has_ended, phase_of}
 use Rattle.hs_machine.specs.Run.{Run}
 use Rattle.base_laws.proofs.ListLemmas.{front_induction, in_order, EachAfter-push}
@@ -144,7 +145,7 @@ last_horizon m es k some =
     let r = ending_of es some in
     let rules = (EachAfter-push (KeepsRules m) [] r.front r.last (subst (EachAfter (KeepsRules m) []) r.is k.rules)).1 in
     let size = ap length r.is ∙ length-append r.front (r.last ∷ []) in
-    at (slice_get m.horizons (length es - 1)) refl (omega (arith, size, rules.base.horizon_left))
+    at (slice_get m.horizons (length es - 1)) refl (omega (arith, size, (base_kept rules).horizon_left))
   where
     at : (o : Option Horizon) → slice_get m.horizons (length es - 1) ≡ o → length es - 1 < length m.horizons → (g : Horizon) × (slice_get m.horizons (length es - 1) ≡ Some g)
     at (Some g) is below = (g, is)

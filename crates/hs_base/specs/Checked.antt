@@ -1,6 +1,6 @@
 -- Checked plans: the rules that each extension keeps with those before it, and a schedule.
-use Rattle.std.specs.Prelude.{◌≡◌, ◌⊎◌, ℕ, suc, ◌+◌, ◌-◌, ◌<◌, ◌≤◌, true, false, pos, List, [], ◌∷◌, ◌++◌, length, flat_map, slice_get, Option, Some, None, Contains, ⊤}
-use Rattle.std.specs.List.{AllByRecursion}
+use Rattle.std.specs.Prelude.{◌≡◌, ◌⊎◌, ℕ, suc, ◌+◌, ◌-◌, ◌<◌, ◌≤◌, Bool, true, false, pos, List, [], ◌∷◌, ◌++◌, length, flat_map, slice_get, Option, Some, None, Contains, ⊤}
+use Rattle.std.specs.List.{AllByRecursion, before_first}
 use Rattle.hs_base.specs.Types.{NEW_TOKENS, FREE_POINTS, Kind, TokenRef, Choice, Need, Goal, Support, Time, Var, Extension, Mission}
 use Rattle.hs_base.specs.Walks.{EachAfter}
 use Rattle.hs_base.specs.Schedule.{Schedule}
@@ -121,15 +121,54 @@ KeepsGoalAt m es e i = IsEntryOf (joined es e) (slice_get (goals_of m (length es
 pub record KeepsGoals (m : Mission) (es : List Extension) (e : Extension) : Type 0 where
   pub each : (i : ℕ) → KeepsGoalAt m es e i
 
--- the rules that an extension keeps with the plan before it
+-- the rules of an extension; the last one is that there is a schedule
+pub data Rule : Type 0 where
+  base : Rule
+  limits : Rule
+  order : Rule
+  fixed : Rule
+  supports : Rule
+  needs : Rule
+  goals : Rule
+  schedule : Rule
+
+-- the order in which they are looked at
+abbrev pub in_order : List Rule
+in_order = base ∷ limits ∷ order ∷ fixed ∷ supports ∷ needs ∷ goals ∷ schedule ∷ []
+
+abbrev pub same_rule : Rule → Rule → Bool
+same_rule base base = true
+same_rule limits limits = true
+same_rule order order = true
+same_rule fixed fixed = true
+same_rule supports supports = true
+same_rule needs needs = true
+same_rule goals goals = true
+same_rule schedule schedule = true
+same_rule _ _ = false
+
+-- the rules that are looked at before this one
+abbrev pub before : Rule → List Rule
+before r = before_first (same_rule r) in_order
+
+-- the extension keeps the rule with the plan before it
+abbrev pub Keeps : Mission → List Extension → Extension → Rule → Type 0
+Keeps m es e base = KeepsBase m es e
+Keeps m es e limits = KeepsLimits es e
+Keeps m es e order = KeepsOrder m es e
+Keeps m es e fixed = KeepsFixed es e
+Keeps m es e supports = KeepsSupports m es e
+Keeps m es e needs = KeepsNeeds m (joined es e)
+Keeps m es e goals = KeepsGoals m es e
+Keeps m es e schedule = (s : Schedule) × IsScheduleOf m (joined es e) s
+
+-- and each rule before this one
+abbrev pub KeepsBefore : Mission → List Extension → Extension → Rule → Type 0
+KeepsBefore m es e r = AllByRecursion (Keeps m es e) (before r)
+
+-- all rules but the schedule, which the checked plan has as a whole
 pub record KeepsRules (m : Mission) (es : List Extension) (e : Extension) : Type 0 where
-  pub base : KeepsBase m es e
-  pub limits : KeepsLimits es e
-  pub order : KeepsOrder m es e
-  pub fixed : KeepsFixed es e
-  pub supports : KeepsSupports m es e
-  pub needs : KeepsNeeds m (joined es e)
-  pub goals : KeepsGoals m es e
+  pub each : KeepsBefore m es e schedule
 
 pub record Checked (m : Mission) (es : List Extension) : Type 0 where
   pub mission : IsMission m

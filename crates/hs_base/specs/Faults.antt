@@ -1,5 +1,5 @@
 -- Which fault of an extension is the first one.
-use Rattle.std.specs.Prelude.{◌≡◌, ◌⊎◌, ℕ, ◌<◌, ◌^◌, ◌-◌, min, List, [], ◌∷◌, ◌++◌, length, Some}
+use Rattle.std.specs.Prelude.{◌≡◌, ◌⊎◌, ℕ, ◌<◌, ◌^◌, ◌-◌, min, List, [], ◌∷◌, ◌++◌, length, Some, ⊤}
 use Rattle.hs_base.specs.Types.{Kind, TokenRef, Need, Extension, Mission, Fault, Base, OverLimit, Order, Fixed, WrongSupport, Unsupported, NoGoal, Cycle, NoMemoryLeft}
 use Rattle.hs_base.specs.Walks.{EachAfter}
 use Rattle.hs_base.specs.Ranges.{whole, InRange}
@@ -7,7 +7,7 @@ use Rattle.hs_base.specs.Cycles.{IsNegativeCycle}
 use Rattle.hs_base.specs.Points.{tokens_of, timeline_of}
 use Rattle.hs_base.specs.Needs.{need_at}
 use Rattle.hs_base.specs.Bounds.{bounds_of}
-use Rattle.hs_base.specs.Checked.{joined, free_points, HasTokenOf, KeepsBase, KeepsLimits, KeepsOrderAt, KeepsOrder, KeepsFixedAt, KeepsFixed, KeepsSupportAt, KeepsSupports, IsServed, KeepsNeeds, IsNeedBefore, KeepsGoalAt, KeepsGoals}
+use Rattle.hs_base.specs.Checked.{joined, free_points, HasTokenOf, KeepsBase, KeepsLimits, KeepsOrderAt, KeepsFixedAt, KeepsSupportAt, IsServed, IsNeedBefore, KeepsGoalAt, Rule, base, limits, order, fixed, supports, needs, goals, schedule, KeepsBefore}
 
 -- x stands behind `before` in the list, where P holds of each of those, and does not hold of x
 pub record IsFirstBreak {X : Type 0} (P : List X → X → Type 0) (xs before : List X) (x : X) : Type 0 where
@@ -75,42 +75,30 @@ pub record IsFirstGoal (m : Mission) (es : List Extension) (e : Extension) (i : 
   pub broken : KeepsGoalAt m es e i → ⊥
   pub first : (j : ℕ) → j < i → KeepsGoalAt m es e j
 
--- Each number of a fault, in the order in which they are looked for: the rules before it hold.
-pub record BeforeLimit (m : Mission) (es : List Extension) (e : Extension) : Type 0 where
-  pub base : KeepsBase m es e
+-- the rule that a fault says is broken; want of memory says it of none
+abbrev pub rule_of : Fault → Rule
+rule_of (Base given current) = base
+rule_of (OverLimit points tokens) = limits
+rule_of (Order v place) = order
+rule_of (Fixed i) = fixed
+rule_of (WrongSupport i) = supports
+rule_of (Unsupported v place i) = needs
+rule_of (NoGoal i) = goals
+rule_of (Cycle bs) = schedule
+rule_of NoMemoryLeft = base
 
-pub record BeforeOrder (m : Mission) (es : List Extension) (e : Extension) : Type 0 where
-  pub earlier : BeforeLimit m es e
-  pub limits : KeepsLimits es e
+-- the fault's rule is broken first at what the fault names; which negative cycle it names is free
+abbrev pub Names : Mission → List Extension → Extension → Fault → Type 0
+Names m es e (Base given current) = (KeepsBase m es e → ⊥) × (given ≡ e.base) × (current ≡ length es)
+Names m es e (OverLimit points tokens) = (KeepsLimits es e → ⊥) × (points ≡ shown (free_points (joined es e))) × (tokens ≡ shown (length e.tokens))
+Names m es e (Order v place) = IsMisplaced m es e.tokens v.0 place ⊎ (IsMissingFirst m es e.tokens v.0 × (place ≡ 0))
+Names m es e (Fixed i) = IsFirstBreakAt (KeepsFixedAt es e) e.fixed i ⊎ IsSinceWrong es e i
+Names m es e (WrongSupport i) = IsFirstBreakAt (KeepsSupportAt m es e) e.supports i
+Names m es e (Unsupported v place i) = IsFirstUnserved m (joined es e) (record { sv = v; place = place }) i
+Names m es e (NoGoal i) = IsFirstGoal m es e i
+Names m es e (Cycle bs) = IsNegativeCycle (bounds_of m (joined es e)) bs
+Names m es e NoMemoryLeft = ⊤
 
-pub record BeforeFixed (m : Mission) (es : List Extension) (e : Extension) : Type 0 where
-  pub earlier : BeforeOrder m es e
-  pub order : KeepsOrder m es e
-
-pub record BeforeSupport (m : Mission) (es : List Extension) (e : Extension) : Type 0 where
-  pub earlier : BeforeFixed m es e
-  pub fixed : KeepsFixed es e
-
-pub record BeforeNeed (m : Mission) (es : List Extension) (e : Extension) : Type 0 where
-  pub earlier : BeforeSupport m es e
-  pub supports : KeepsSupports m es e
-
-pub record BeforeGoal (m : Mission) (es : List Extension) (e : Extension) : Type 0 where
-  pub earlier : BeforeNeed m es e
-  pub needs : KeepsNeeds m (joined es e)
-
-pub record BeforeCycle (m : Mission) (es : List Extension) (e : Extension) : Type 0 where
-  pub earlier : BeforeGoal m es e
-  pub goals : KeepsGoals m es e
-
--- the fault is the first one of extension e behind the plan es; which negative cycle is named is free
+-- the fault is the first one of extension e behind the plan es: the rules before its own are kept
 abbrev pub IsFault : Mission → List Extension → Extension → Fault → Type 0
-IsFault m es e (Base given current) = (KeepsBase m es e → ⊥) × (given ≡ e.base) × (current ≡ length es)
-IsFault m es e (OverLimit points tokens) = BeforeLimit m es e × (KeepsLimits es e → ⊥) × (points ≡ shown (free_points (joined es e))) × (tokens ≡ shown (length e.tokens))
-IsFault m es e (Order v place) = BeforeOrder m es e × (IsMisplaced m es e.tokens v.0 place ⊎ (IsMissingFirst m es e.tokens v.0 × (place ≡ 0)))
-IsFault m es e (Fixed i) = BeforeFixed m es e × (IsFirstBreakAt (KeepsFixedAt es e) e.fixed i ⊎ IsSinceWrong es e i)
-IsFault m es e (WrongSupport i) = BeforeSupport m es e × IsFirstBreakAt (KeepsSupportAt m es e) e.supports i
-IsFault m es e (Unsupported v place i) = BeforeNeed m es e × IsFirstUnserved m (joined es e) (record { sv = v; place = place }) i
-IsFault m es e (NoGoal i) = BeforeGoal m es e × IsFirstGoal m es e i
-IsFault m es e (Cycle bs) = BeforeCycle m es e × IsNegativeCycle (bounds_of m (joined es e)) bs
-IsFault m es e NoMemoryLeft = Unit {0}
+IsFault m es e f = KeepsBefore m es e (rule_of f) × Names m es e f

@@ -9,12 +9,3 @@ pub trait Copies: Drop {
     fn copy(&self, alloc: Global) -> Result<Self, Memory>
         ensures { IfOk result (λ copied. copied ≡ self.now) };
 }
-
-impl<T: Copies> Copies for Option<T> {
-    fn copy(&self, alloc: Global) -> Result<Option<T>, Memory> {
-        match self {
-            Some(value) => Ok(Some(value.copy(alloc)?)),
-            None => Ok(None),
-        }
-    }
-}

@@ -17,26 +17,8 @@ pub struct ValId(pub u32);
 #[derive(Clone, Copy, Debug, PartialEq, Eq, PartialOrd, Ord, Hash)]
 pub struct WordId(pub u32);
 
-impl Copies for PointId {
-    fn copy(&self, _alloc: Global) -> Result<PointId, Memory> {
-        Ok(*self)
-    }
-}
-
-impl Copies for SvId {
-    fn copy(&self, _alloc: Global) -> Result<SvId, Memory> {
-        Ok(*self)
-    }
-}
-
 impl Copies for ValId {
     fn copy(&self, _alloc: Global) -> Result<ValId, Memory> {
-        Ok(*self)
-    }
-}
-
-impl Copies for WordId {
-    fn copy(&self, _alloc: Global) -> Result<WordId, Memory> {
         Ok(*self)
     }
 }

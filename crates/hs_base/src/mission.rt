@@ -1,3 +1,7 @@
+ghost use Rattle.std.specs.Prelude.{◌≡◌, filter, slice_get, option_copied};
+ghost use Rattle.hs_base.specs.Points.{value_of};
+ghost use Rattle.hs_base.specs.Needs.{same_kind, needs_of, choice_by, is_deferrable};
+
 use crate::{Copies, List, Memory, Name, Range, Relation, Same, SvId, ValId, WordId};
 use std::alloc::Global;
 
@@ -6,6 +10,15 @@ use std::alloc::Global;
 pub struct Kind {
     pub sv: SvId,
     pub value: ValId,
+}
+
+impl Kind {
+    /// Whether the two are one kind.
+    pub fn is(self, other: Kind) -> bool
+        ensures { result ≡ same_kind self other }
+    {
+        self.sv.0 == other.sv.0 && self.value.0 == other.value.0
+    }
 }
 
 impl Copies for Kind {
@@ -152,6 +165,45 @@ pub struct Need {
     pub either: List<Choice>,
 }
 
+impl Need {
+    /// The choice that a token of the kind serves.
+    pub fn choice(&self, kind: Kind) -> Option<&Choice>
+        ensures { option_copied result ≡ choice_by self.now kind }
+    {
+        self.either
+            .as_slice()
+            .iter()
+            .find(|choice| choice.by.is(kind))
+    }
+
+    /// Whether it may be left to a later plan while its token is the last of its timeline.
+    pub fn is_deferrable(&self) -> bool
+        ensures { result ≡ is_deferrable self.now }
+    {
+        self.either
+            .as_slice()
+            .iter()
+            .any(|choice| choice.relation.may_wait())
+    }
+}
+
+/// The need of that number among those of the kind.
+#[tactic(auto, using(crate::proofs::NeedLemmas::filter_at))]
+fn need_among(needs: &[Need], kind: Kind, number: u32) -> Option<&Need>
+    ensures { option_copied result ≡ slice_get (filter (λ n. same_kind n.of kind) needs.now) number }
+{
+    let mut left = number;
+    for need in needs {
+        if need.of.is(kind) {
+            if left == 0 {
+                return Some(need);
+            }
+            left -= 1;
+        }
+    }
+    None
+}
+
 impl Copies for Need {
     fn copy(&self, alloc: Global) -> Result<Need, Memory> {
         Ok(Need {
@@ -216,6 +268,23 @@ pub struct Mission {
     pub needs: List<Need>,
     pub horizons: List<Horizon>,
     pub words: List<Name>,
+}
+
+impl Mission {
+    /// The value of that kind.
+    pub fn value(&self, kind: Kind) -> Option<&Value>
+        ensures { option_copied result ≡ value_of self.now kind }
+    {
+        let var = self.vars.as_slice().get(kind.sv.0 as usize)?;
+        var.values.as_slice().get(kind.value.0 as usize)
+    }
+
+    /// The need of that number among those of the kind.
+    pub fn need(&self, kind: Kind, number: u32) -> Option<&Need>
+        ensures { option_copied result ≡ slice_get (needs_of self.now kind) number }
+    {
+        need_among(self.needs.as_slice(), kind, number)
+    }
 }
 
 impl Copies for Mission {

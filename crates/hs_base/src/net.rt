@@ -1,4 +1,4 @@
-use crate::{Copies, List, Memory, PointId, Same};
+use crate::{Copies, List, Memory, PointId};
 use std::alloc::Global;
 
 /// The bound `t(to) - t(from) <= most` between two time points, in ticks.
@@ -15,12 +15,6 @@ impl Copies for Bound {
     }
 }
 
-impl Same for Bound {
-    fn same(&self, other: &Bound) -> bool {
-        self.from.same(&other.from) && self.to.same(&other.to) && self.most == other.most
-    }
-}
-
 /// A point that stands exactly `offset` ticks after the leader of its group.
 #[derive(Clone, Copy, Debug, PartialEq, Eq)]
 pub struct Member {
@@ -31,12 +25,6 @@ pub struct Member {
 impl Copies for Member {
     fn copy(&self, _alloc: Global) -> Result<Member, Memory> {
         Ok(*self)
-    }
-}
-
-impl Same for Member {
-    fn same(&self, other: &Member) -> bool {
-        self.point.same(&other.point) && self.offset == other.offset
     }
 }
 
@@ -57,12 +45,6 @@ impl Copies for Group {
     }
 }
 
-impl Same for Group {
-    fn same(&self, other: &Group) -> bool {
-        self.leader.same(&other.leader) && self.members.same(&other.members)
-    }
-}
-
 /// A dispatchable network: groups by leader, and the kept edges between leaders by `from`, then
 /// `to`.
 #[derive(Debug, PartialEq, Drop)]
@@ -77,11 +59,5 @@ impl Copies for Net {
             groups: self.groups.copy(alloc)?,
             edges: self.edges.copy(alloc)?,
         })
-    }
-}
-
-impl Same for Net {
-    fn same(&self, other: &Net) -> bool {
-        self.groups.same(&other.groups) && self.edges.same(&other.edges)
     }
 }

@@ -1,5 +1,7 @@
-use crate::{Copies, Memory, Range, Same};
-use std::alloc::Global;
+ghost use Rattle.std.specs.Prelude.{◌≡◌};
+ghost use Rattle.hs_base.specs.Needs.{may_wait};
+
+use crate::{Range, Same};
 
 /// How the token that has a need lies in time to the token that serves it.
 #[derive(Clone, Copy, Debug, PartialEq, Eq)]
@@ -24,9 +26,12 @@ pub enum Relation {
     ContainedBy(Range, Range),
 }
 
-impl Copies for Relation {
-    fn copy(&self, _alloc: Global) -> Result<Relation, Memory> {
-        Ok(*self)
+impl Relation {
+    /// Whether the other token may come in a later plan.
+    pub fn may_wait(&self) -> bool
+        ensures { result ≡ may_wait self.now }
+    {
+        matches!(self, Relation::Before(_) | Relation::Meets)
     }
 }
 

@@ -6,13 +6,3 @@ pub trait Same: Drop {
     fn same(&self, other: &Self) -> bool
         ensures { IsTrue result ↔ (self.now ≡ other.now) };
 }
-
-impl<T: Same> Same for Option<T> {
-    fn same(&self, other: &Option<T>) -> bool {
-        match (self, other) {
-            (Some(ours), Some(theirs)) => ours.same(theirs),
-            (None, None) => true,
-            _ => false,
-        }
-    }
-}

@@ -1,5 +1,4 @@
-use hs_base::{Bound, Copies, Extension, List, Memory, Net, PointId, Same, SvId};
-use std::alloc::Global;
+use hs_base::{Bound, Extension, Net, PointId, SvId};
 
 /// What one entry of a history records.
 #[derive(Debug, PartialEq, Drop)]
@@ -30,48 +29,11 @@ pub enum Deed {
     Broken(SvId),
 }
 
-impl Copies for Deed {
-    fn copy(&self, alloc: Global) -> Result<Deed, Memory> {
-        match self {
-            Deed::Tick => Ok(Deed::Tick),
-            Deed::Fire(point) => Ok(Deed::Fire(*point)),
-            Deed::Report(point) => Ok(Deed::Report(*point)),
-            Deed::Handover { extension, net } => Ok(Deed::Handover {
-                extension: extension.copy(alloc)?,
-                net: net.copy(alloc)?,
-            }),
-            Deed::Stale {
-                extension,
-                bound,
-                from_time,
-                to_time,
-            } => Ok(Deed::Stale {
-                extension: extension.copy(alloc)?,
-                bound: *bound,
-                from_time: *from_time,
-                to_time: *to_time,
-            }),
-            Deed::Late(bound) => Ok(Deed::Late(*bound)),
-            Deed::Early(bound) => Ok(Deed::Early(*bound)),
-            Deed::Broken(sv) => Ok(Deed::Broken(*sv)),
-        }
-    }
-}
-
 /// One entry of a history, with the number of the pass that made it.
 #[derive(Debug, PartialEq, Drop)]
 pub struct Entry {
     pub by: u32,
     pub deed: Deed,
-}
-
-impl Copies for Entry {
-    fn copy(&self, alloc: Global) -> Result<Entry, Memory> {
-        Ok(Entry {
-            by: self.by,
-            deed: self.deed.copy(alloc)?,
-        })
-    }
 }
 
 /// Where an executive stands.

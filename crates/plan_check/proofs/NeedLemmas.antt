@@ -1,5 +1,5 @@
 -- Which needs are served, by rows and claims.
-use Rattle.std.proofs.Common.{◌≡◌, ℕ, ◌+◌, ◌-◌, ◌<◌, ◌≤◌, false, true, Bool, ◌&&◌, ◌||◌, nat_eq, List, [], ◌∷◌, length, take, get_or, Some, refl, sym, ap, ◌∙◌, subst, arith, inl, inr, length-append, cond}
+use Rattle.std.proofs.Common.{◌≡◌, ℕ, ◌+◌, ◌<◌, ◌≤◌, false, true, Bool, ◌&&◌, ◌||◌, nat_eq, List, [], ◌∷◌, length, take, get_or, Some, refl, sym, ap, ◌∙◌, subst, arith, inl, inr, length-append, cond}
 use Rattle.std.proofs.lemmas.Bool.{cases_Bool, cases_lt, eqb-true, eq-eqb}
 use Rattle.std.proofs.lemmas.Grind.{common_steps}
 use Rattle.std.proofs.lemmas.List.{get_or_past, length-take}
@@ -18,13 +18,13 @@ use Rattle.hs_base.specs.declared.fault.Fault.{Fault}
 use Rattle.hs_base.specs.declared.fault.Fault.TheVariants.{Base, Limit as OverLimit, Order, Fixed, WrongSupport, Unsupported, Goal as NoGoal, Cycle, Memory as NoMemoryLeft}
 use Rattle.hs_base.specs.Points.{tokens_of, timeline_of, token_at}
 use Rattle.hs_base.specs.Needs.{same_kind, needs_of, need_of, need_at, is_deferrable}
-use Rattle.hs_base.specs.Checked.{joined, supports_of, IsServed, IsNeedBefore, KeepsNeeds}
-use Rattle.hs_base.specs.Faults.{IsUnserved, IsFirstUnserved, BeforeNeed, IsFault}
+use Rattle.hs_base.specs.Checked.{joined, supports_of, IsServed, IsNeedBefore, KeepsNeeds, needs as needs_rule, KeepsBefore}
+use Rattle.hs_base.specs.Faults.{IsUnserved, IsFirstUnserved, IsFault}
 use Rattle.base_laws.proofs.ListLemmas.{slice_get-append_left}
 use Rattle.base_laws.proofs.PointLemmas.{timeline-append, tokens-push}
 use Rattle.plan_laws.proofs.NeedLemmas.{need_found}
 use Rattle.plan_laws.proofs.ChainLemmas.{contained_at}
-use Rattle.token_net.proofs.ItemLemmas.{filter_at}
+use Rattle.hs_base.proofs.NeedLemmas.{filter_at}
 use Rattle.std.proofs.lemmas.List.Filters.{length-filter_more}
 use Rattle.plan_check.specs.Lines.{row_of, AreLines}
 use Rattle.plan_check.specs.Claimed.{is_claimed, is_for, AreClaims}
@@ -136,7 +136,7 @@ module _ {S : Type 0} (m : Mission) (es : List Extension) (e : Extension) (rows 
           by_place (inl less) = h.places_before u.place j first_is less open_is
           by_place (inr at) = h.needs_before j at.1 (subst (λ (x : ℕ). IsOpenAt m set v (row_of rows v.0) x j) at.0 open_is)
 
-  pub open_fault : (f : Fault) → BeforeNeed m es e → IsOpenFault m set rows e.tokens f → IsFault m es e f
+  pub open_fault : (f : Fault) → KeepsBefore m es e needs_rule → IsOpenFault m set rows e.tokens f → IsFault m es e f
   open_fault (Unsupported v p i) before h = (before, first_unserved v p i h)
   open_fault (Base g c) before h = absurd h
   open_fault (OverLimit p t) before h = absurd h

@@ -15,9 +15,9 @@ use Rattle.hs_base.specs.declared.fault.Fault.{Fault}
 use Rattle.hs_base.specs.declared.fault.Fault.TheVariants.{Base, Limit as OverLimit, Order, Fixed, WrongSupport, Unsupported, Goal as NoGoal, Cycle, Memory as NoMemoryLeft}
 use Rattle.hs_base.specs.Walks.{EachAfter}
 use Rattle.hs_base.specs.Points.{tokens_of, timeline_of}
-use Rattle.hs_base.specs.Checked.{joined, HasTokenOf, MayStandBehind, KeepsOrderAt, KeepsOrder, KeepsLimits, KeepsRules}
+use Rattle.hs_base.specs.Checked.{joined, HasTokenOf, MayStandBehind, KeepsOrderAt, KeepsOrder, KeepsLimits, order, KeepsBefore, KeepsRules}
 use Rattle.hs_base.specs.Missions.{IsMission}
-use Rattle.hs_base.specs.Faults.{IsMissingFirst, IsMisplaced, BeforeOrder, IsFault}
+use Rattle.hs_base.specs.Faults.{IsMissingFirst, IsMisplaced, IsFault}
 use Rattle.base_laws.proofs.ListLemmas.{each_weaker, each_both, slice_get-split}
 use Rattle.base_laws.proofs.PointLemmas.{tokens-push}
 use Rattle.plan_check.specs.Lines.{row_of, AreLines}
@@ -112,7 +112,7 @@ module _ (m : Mission) (es : List Extension) (e : Extension) (tokens : List Kind
     passed = passed;
   }
 
-  pub stand_fault : (f : Fault) → BeforeOrder m es e → IsStandFault m rows lowest next f → IsFault m es e f
+  pub stand_fault : (f : Fault) → KeepsBefore m es e order → IsStandFault m rows lowest next f → IsFault m es e f
   stand_fault (Order v place) before (inl b) = (before, inr (subst (λ (l : List Kind). IsMissingFirst m es l v.0) is (missing v.0 b.below b.none b.firsts b.smaller), b.is_place))
   stand_fault (Order v place) before (inr b) = (before, inl (subst (λ (l : List Kind). IsMisplaced m es l v.0 place) is (misplaced v.0 place b.broken b.firsts b.variable b.is_place)))
   stand_fault (Base g c) before b = absurd b
@@ -137,7 +137,7 @@ module _ (m : Mission) (es : List Extension) (e : Extension) (rows : List (List 
   pub order_kept : ((v : ℕ) → v < length rows → 0 < length (row_of rows v)) → KeepsOrder m es e
   order_kept h = record { each = kept; all = λ v below. let some = h v (omega (arith, below, lines.size)) in omega (arith, some, ap length (lines.each v)) }
 
-  pub order_missing : (v : SvId) → v.0 < length rows → row_of rows v.0 ≡ [] → ((w : ℕ) → w < v.0 → 0 < length (row_of rows w)) → BeforeOrder m es e → IsFault m es e (Order v 0)
+  pub order_missing : (v : SvId) → v.0 < length rows → row_of rows v.0 ≡ [] → ((w : ℕ) → w < v.0 → 0 < length (row_of rows w)) → KeepsBefore m es e order → IsFault m es e (Order v 0)
   order_missing v there none firsts before =
       let whole = tokens-push es e in
       let size : (w : ℕ) → length (row_of rows w) ≡ length (timeline_of (tokens_of es ++ e.tokens) w) = λ w. ap length (lines.each w ∙ ap (λ (l : List Kind). timeline_of l w) whole) in (

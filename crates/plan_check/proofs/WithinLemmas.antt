@@ -1,5 +1,5 @@
 -- What a plan that keeps its rules has.
-use Rattle.std.proofs.Common.{◌≡◌, ◌+◌, ◌*◌, ◌<◌, ◌≤◌, pos, List, [], ◌∷◌, ◌++◌, length, refl, sym, ap, ◌∙◌, subst, arith, append-nil, length-append}
+use Rattle.std.proofs.Common.{◌≡◌, ◌*◌, ◌<◌, ◌≤◌, pos, List, [], ◌∷◌, ◌++◌, length, refl, sym, ap, ◌∙◌, subst, arith, append-nil, length-append}
 use Rattle.std.proofs.lemmas.Int.{ints}
 use Rattle.std.proofs.lemmas.Grind.{flat_map-append}
 use Rattle.std.proofs.lemmas.Option.{slice_get_within}
@@ -13,6 +13,7 @@ use Rattle.hs_base.specs.Ranges.{whole, InRange}
 use Rattle.hs_base.specs.Missions.{IsKindOf, IsVar, IsMission}
 use Rattle.hs_base.specs.Points.{count, tokens_of, timeline_of}
 use Rattle.hs_base.specs.Checked.{fixed_of, supports_of, KeepsOrderAt, KeepsFixedAt, KeepsRules, KeepsNeeds, Checked}
+use Rattle.hs_base.proofs.RuleLemmas.{base_kept, limits_kept, order_kept, fixed_kept, needs_kept}
 use Rattle.base_laws.proofs.ListLemmas.{snoc_induction, each_at, each_both, each_weaker}
 use Rattle.base_laws.proofs.PointLemmas.{tokens-push, count-push, count_is}
 use Rattle.plan_laws.proofs.ChainLemmas.{value_there}
@@ -36,7 +37,7 @@ module _ (m : Mission) (h : IsMission m) where
   more_kinds : (before : List Extension) (e : Extension) → KeepsRules m before e → AllKinds before → AllKinds (before ++ e ∷ [])
   more_kinds before e r k =
       subst (AllByRecursion (IsKindOf m.vars)) (sym (tokens-push before e))
-      (each_both (IsKindOf m.vars) (tokens_of before) e.tokens k (each_from (KeepsOrderAt m before) (IsKindOf m.vars) (kind_of m before h) [] e.tokens r.order.each))
+      (each_both (IsKindOf m.vars) (tokens_of before) e.tokens k (each_from (KeepsOrderAt m before) (IsKindOf m.vars) (kind_of m before h) [] e.tokens (order_kept r).each))
 
   pub all_kinds : (es : List Extension) → EachAfter (KeepsRules m) [] es → AllKinds es
   all_kinds es r = snoc_induction AllKinds (KeepsRules m) more_kinds [] es tt r
@@ -55,7 +56,7 @@ module _ (m : Mission) (h : IsMission m) where
       subst (AllByRecursion P) (sym (fixed-push before e))
       (each_both P (fixed_of before) e.fixed
       (each_weaker (λ (t : Time). t.point.0 < count before) P (λ t b. omega (arith, b, grows)) (fixed_of before) k)
-      (each_from (KeepsFixedAt before e) P (λ b t f. omega (arith, f.below, grows)) [] e.fixed r.fixed.each))
+      (each_from (KeepsFixedAt before e) P (λ b t f. omega (arith, f.below, grows)) [] e.fixed (fixed_kept r).each))
 
   pub all_points : (es : List Extension) → EachAfter (KeepsRules m) [] es → AllPoints es
   all_points es r = snoc_induction AllPoints (KeepsRules m) more_points [] es tt r
@@ -66,25 +67,25 @@ module _ (m : Mission) (h : IsMission m) where
   more_times : (before : List Extension) (e : Extension) → KeepsRules m before e → AllTimes before → AllTimes (before ++ e ∷ [])
   more_times before e r k =
       let P : Time → Type 0 = λ t. InRange whole t.at in
-      let high = r.fixed.since.1 in
+      let high = (fixed_kept r).since.1 in
       subst (AllByRecursion P) (sym (fixed-push before e))
       (each_both P (fixed_of before) e.fixed k
-      (each_from (KeepsFixedAt before e) P (λ b t f. let upper = f.at.1 in (f.at.0, omega (arith, ints, upper, high))) [] e.fixed r.fixed.each))
+      (each_from (KeepsFixedAt before e) P (λ b t f. let upper = f.at.1 in (f.at.0, omega (arith, ints, upper, high))) [] e.fixed (fixed_kept r).each))
 
   pub all_times : (es : List Extension) → EachAfter (KeepsRules m) [] es → AllTimes es
   all_times es r = snoc_induction AllTimes (KeepsRules m) more_times [] es tt r
 
   -- the bounds of a plan that keeps its rules can be made
   pub within : (es : List Extension) → EachAfter (KeepsRules m) [] es → IsWithin m es
-  within es r = record { kinds = all_kinds es r; points = all_points es r; times = all_times es r; since = each_from (KeepsRules m) (λ (e : Extension). InRange whole e.since) (λ b e k. k.fixed.since) [] es r }
+  within es r = record { kinds = all_kinds es r; points = all_points es r; times = all_times es r; since = each_from (KeepsRules m) (λ (e : Extension). InRange whole e.since) (λ b e k. (fixed_kept k).since) [] es r }
 
   abbrev pub AreFew : List Extension → Type 0
   AreFew es = (length es ≤ length m.horizons) × (length (tokens_of es) ≤ length es * 128)
 
   more_few : (before : List Extension) (e : Extension) → KeepsRules m before e → AreFew before → AreFew (before ++ e ∷ [])
   more_few before e r k =
-      let left = r.base.horizon_left in
-      let tokens = r.limits.tokens in
+      let left = (base_kept r).horizon_left in
+      let tokens = (limits_kept r).tokens in
       let size = length-append before (e ∷ []) in
       let many = ap length (tokens-push before e) ∙ length-append (tokens_of before) e.tokens in
       let old = k.1 in
@@ -118,7 +119,7 @@ module _ (m : Mission) (h : IsMission m) where
 
   -- all needs of the plan are served or wait
   pub all_needs : (es : List Extension) → EachAfter (KeepsRules m) [] es → KeepsNeeds m es
-  all_needs es r = snoc_induction AllNeeds (KeepsRules m) (λ before e k old. k.needs) [] es (record { each = λ t i n is. absurd (cc) }) r
+  all_needs es r = snoc_induction AllNeeds (KeepsRules m) (λ before e k old. needs_kept k) [] es (record { each = λ t i n is. absurd (cc) }) r
 
 -- the plan without extension is checked
 pub none_checked : (m : Mission) → IsMission m → Checked m []

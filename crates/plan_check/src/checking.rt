@@ -62,9 +62,8 @@ fn check_schedule(alloc: Global, mission: &Mission, plan: &Plan) -> Result<(), F
     }
 }
 
-/// The plan with the extension, exactly where it is a checked one, or else the first fault: by
-/// their numbers 1, 8, 2, 6, 4, 3, 5, 7, and of one number the least. Which cycle is named is
-/// left free. On a refusal the extension is dropped.
+/// The plan with the extension, exactly where it is a checked one, or else the first fault, in the
+/// order of the rules. Which cycle is named is left free. On a refusal the extension is dropped.
 pub fn check(alloc: Global, base: &CheckedPlan, extension: Extension) -> Result<CheckedPlan, Fault>
     ensures joins { IfOk result (Joins base.now extension) }
     ensures checked { IfOk result (λ c. Checked c.mission c.plan.extensions) }

@@ -1,8 +1,8 @@
 ghost use Rattle.std.specs.Prelude.{◌≡◌, ℕ, ◌<◌, ◌^◌, ◌↔◌, ◌||◌, false, nat_eq, length, get_or, All, IsTrue, IfOk, OnOk, IfErr};
 ghost use Rattle.std.specs.List.{AllByRecursion, list_any};
 ghost use Rattle.hs_base.specs.Points.{count};
-ghost use Rattle.hs_base.specs.Checked.{fixed_of, Checked, KeepsFixed};
-ghost use Rattle.hs_base.specs.Faults.{BeforeFixed, IsFault};
+ghost use Rattle.hs_base.specs.Checked.{fixed_of, Checked, KeepsFixed, fixed, KeepsBefore};
+ghost use Rattle.hs_base.specs.Faults.{IsFault};
 ghost use Rattle.plan_check.specs.Fixing.{AreFlags, MayFix};
 
 use hs_base::{Extension, Fault, LAST, Memory, Mission, Plan, Time};
@@ -55,7 +55,7 @@ pub(crate) fn check_fixed(
 ) -> Result<(), Fault>
     requires checked { Checked mission.now plan.now.extensions }
     requires small { count plan.now.extensions < 2 ^ 32 }
-    requires before { BeforeFixed mission.now plan.now.extensions extension.now }
+    requires before { KeepsBefore mission.now plan.now.extensions extension.now fixed }
     ensures kept { OnOk result (KeepsFixed plan.now.extensions extension.now) }
     ensures fault { IfErr result (IsFault mission.now plan.now.extensions extension.now) }
 {

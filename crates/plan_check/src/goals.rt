@@ -1,12 +1,11 @@
 ghost use Rattle.std.specs.Prelude.{◌↔◌, length, slice_get, IsTrue, OnOk, IfErr};
 ghost use Rattle.hs_base.specs.Points.{tokens_of};
 ghost use Rattle.hs_base.specs.Missions.{IsMission};
-ghost use Rattle.hs_base.specs.Checked.{joined, KeepsGoals};
-ghost use Rattle.hs_base.specs.Faults.{BeforeGoal, IsFault};
+ghost use Rattle.hs_base.specs.Checked.{joined, KeepsGoals, goals, KeepsBefore};
+ghost use Rattle.hs_base.specs.Faults.{IsFault};
 ghost use Rattle.plan_check.specs.Lines.{AreLines};
 ghost use Rattle.plan_check.specs.Meeting.{IsMetIn};
 
-use crate::lookups::is_same;
 use crate::timelines::Timelines;
 use hs_base::{Extension, Fault, Goal, Mission, Plan, TokenRef};
 
@@ -18,7 +17,7 @@ fn is_met(lines: &Timelines, goal: &Goal, entries: &[TokenRef], i: usize) -> boo
         return false;
     };
     match lines.kind(*token) {
-        Some(kind) => is_same(kind, goal.kind),
+        Some(kind) => kind.is(goal.kind),
         None => false,
     }
 }
@@ -31,7 +30,7 @@ pub(crate) fn check_goals(
     extension: &Extension,
 ) -> Result<(), Fault>
     requires mission { IsMission mission.now }
-    requires before { BeforeGoal mission.now plan.now.extensions extension.now }
+    requires before { KeepsBefore mission.now plan.now.extensions extension.now goals }
     requires lines { AreLines (length mission.now.vars) (tokens_of (joined plan.now.extensions extension.now)) lines.now.rows.items }
     ensures kept { OnOk result (KeepsGoals mission.now plan.now.extensions extension.now) }
     ensures fault { IfErr result (IsFault mission.now plan.now.extensions extension.now) }

@@ -8,7 +8,6 @@ mod fixed;
 mod goals;
 mod laws;
 mod limits;
-mod lookups;
 mod needs;
 mod order;
 mod services;

@@ -1,7 +1,7 @@
 ghost use Rattle.std.specs.Prelude.{◌≡◌, ◌+◌, ◌<◌, ◌^◌, length, OnOk, IfErr};
 ghost use Rattle.hs_base.specs.Points.{count};
-ghost use Rattle.hs_base.specs.Checked.{joined, free_points, KeepsBase, KeepsLimits};
-ghost use Rattle.hs_base.specs.Faults.{shown, BeforeLimit, IsFault};
+ghost use Rattle.hs_base.specs.Checked.{joined, free_points, KeepsBase, KeepsLimits, limits, KeepsBefore};
+ghost use Rattle.hs_base.specs.Faults.{shown, IsFault};
 
 use hs_base::{Extension, FREE_POINTS, Fault, Mission, NEW_TOKENS, Plan};
 use token_net::points;
@@ -48,7 +48,7 @@ pub(crate) fn check_limits(
     extension: &Extension,
 ) -> Result<(), Fault>
     requires small { count plan.now.extensions < 2 ^ 32 }
-    requires before { BeforeLimit mission.now plan.now.extensions extension.now }
+    requires before { KeepsBefore mission.now plan.now.extensions extension.now limits }
     ensures kept { OnOk result (KeepsLimits plan.now.extensions extension.now) }
     ensures fault { IfErr result (IsFault mission.now plan.now.extensions extension.now) }
 {

@@ -6,7 +6,6 @@ ghost use Rattle.plan_check.specs.Lines.{row_of};
 ghost use Rattle.plan_check.specs.Open.{IsFirstOpen, IsFirstOpenIn, HasNoneOpen, IsOpenFault};
 
 use crate::claims::Claims;
-use crate::lookups::{is_same, may_defer};
 use crate::timelines::Timelines;
 use hs_base::{Fault, Kind, Mission, Need, SvId, TokenRef};
 
@@ -14,7 +13,7 @@ use hs_base::{Fault, Kind, Mission, Need, SvId, TokenRef};
 fn is_settled(claims: &Claims, token: TokenRef, number: u32, need: &Need, last: bool) -> bool
     ensures { result ≡ (is_claimed claims.now.set token number || (last && is_deferrable need.now)) }
 {
-    claims.has(token, number) || (last && may_defer(need))
+    claims.has(token, number) || (last && need.is_deferrable())
 }
 
 /// The first need of a token that is not served and may not wait.
@@ -30,7 +29,7 @@ fn open_need(
 {
     let mut number = 0;
     for need in mission.needs.as_slice() {
-        if !is_same(need.of, kind) {
+        if !need.of.is(kind) {
             continue;
         }
         if !is_settled(claims, token, number, need, last) {

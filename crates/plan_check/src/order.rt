@@ -1,8 +1,8 @@
 ghost use Rattle.std.specs.Prelude.{◌<◌, ◌^◌, ◌↔◌, length, IsTrue, OnOk, IfOk, IfErr};
 ghost use Rattle.hs_base.specs.Points.{tokens_of};
 ghost use Rattle.hs_base.specs.Timelines.{MayFollow};
-ghost use Rattle.hs_base.specs.Checked.{joined, Checked, MayStandBehind, KeepsOrder};
-ghost use Rattle.hs_base.specs.Faults.{BeforeOrder, IsFault};
+ghost use Rattle.hs_base.specs.Checked.{joined, Checked, MayStandBehind, KeepsOrder, order, KeepsBefore};
+ghost use Rattle.hs_base.specs.Faults.{IsFault};
 ghost use Rattle.plan_check.specs.Lines.{row_of, AreLines};
 ghost use Rattle.plan_check.specs.Standing.{MayStand, NoneMissing, IsStandFault};
 
@@ -76,7 +76,7 @@ pub(crate) fn check_order(
     extension: &Extension,
 ) -> Result<Timelines, Fault>
     requires checked { Checked mission.now plan.now.extensions }
-    requires before { BeforeOrder mission.now plan.now.extensions extension.now }
+    requires before { KeepsBefore mission.now plan.now.extensions extension.now order }
     ensures lines { IfOk result (λ t. AreLines (length mission.now.vars) (tokens_of (joined plan.now.extensions extension.now)) t.rows.items) }
     ensures kept { OnOk result (KeepsOrder mission.now plan.now.extensions extension.now) }
     ensures fault { IfErr result (IsFault mission.now plan.now.extensions extension.now) }

@@ -1,7 +1,7 @@
 ghost use Rattle.std.specs.Prelude.{length, OnOk, IfErr};
 ghost use Rattle.hs_base.specs.Points.{tokens_of};
-ghost use Rattle.hs_base.specs.Checked.{joined, Checked, KeepsSupports, KeepsNeeds};
-ghost use Rattle.hs_base.specs.Faults.{BeforeSupport, IsFault};
+ghost use Rattle.hs_base.specs.Checked.{joined, Checked, KeepsSupports, KeepsNeeds, supports, KeepsBefore};
+ghost use Rattle.hs_base.specs.Faults.{IsFault};
 ghost use Rattle.plan_check.specs.Lines.{AreLines};
 
 use crate::needs::check_needs;
@@ -19,7 +19,7 @@ pub(crate) fn check_services(
     extension: &Extension,
 ) -> Result<(), Fault>
     requires checked { Checked mission.now plan.now.extensions }
-    requires before { BeforeSupport mission.now plan.now.extensions extension.now }
+    requires before { KeepsBefore mission.now plan.now.extensions extension.now supports }
     requires lines { AreLines (length mission.now.vars) (tokens_of (joined plan.now.extensions extension.now)) lines.now.rows.items }
     ensures supports { OnOk result (KeepsSupports mission.now plan.now.extensions extension.now) }
     ensures needs { OnOk result (KeepsNeeds mission.now (joined plan.now.extensions extension.now)) }

@@ -1,14 +1,13 @@
 ghost use Rattle.std.specs.Prelude.{◌≡◌, ◌<◌, ◌↔◌, length, slice_get, Some, IsTrue, IfOk, OnOk, IfErr};
 ghost use Rattle.hs_base.specs.declared.plan.Support.{Support};
 ghost use Rattle.hs_base.specs.Points.{tokens_of};
-ghost use Rattle.hs_base.specs.Checked.{joined, supports_of, Checked, IsNeedBefore, KeepsSupports};
-ghost use Rattle.hs_base.specs.Faults.{BeforeSupport, IsFault};
+ghost use Rattle.hs_base.specs.Checked.{joined, supports_of, Checked, IsNeedBefore, KeepsSupports, supports, KeepsBefore};
+ghost use Rattle.hs_base.specs.Faults.{IsFault};
 ghost use Rattle.plan_check.specs.Lines.{AreLines};
 ghost use Rattle.plan_check.specs.Claimed.{AreClaims};
 ghost use Rattle.plan_check.specs.Serving.{IsServingIn, IsBehindLast};
 
 use crate::claims::Claims;
-use crate::lookups::{need_at, serves};
 use crate::timelines::Timelines;
 use hs_base::{Extension, Fault, Mission, Plan, Support};
 use std::alloc::Global;
@@ -20,11 +19,11 @@ fn is_serving(mission: &Mission, lines: &Timelines, support: Support) -> bool
     let Some(of) = lines.kind(support.token) else {
         return false;
     };
-    let Some(need) = need_at(mission, of, support.need) else {
+    let Some(need) = mission.need(of, support.need) else {
         return false;
     };
     match lines.kind(support.by) {
-        Some(by) => serves(need, by),
+        Some(by) => need.choice(by).is_some(),
         None => false,
     }
 }
@@ -70,7 +69,7 @@ pub(crate) fn check_supports(
     extension: &Extension,
 ) -> Result<Claims, Fault>
     requires checked { Checked mission.now plan.now.extensions }
-    requires before { BeforeSupport mission.now plan.now.extensions extension.now }
+    requires before { KeepsBefore mission.now plan.now.extensions extension.now supports }
     requires lines { AreLines (length mission.now.vars) (tokens_of (joined plan.now.extensions extension.now)) lines.now.rows.items }
     ensures claims { IfOk result (λ c. AreClaims (supports_of (joined plan.now.extensions extension.now)) c.set) }
     ensures kept { OnOk result (KeepsSupports mission.now plan.now.extensions extension.now) }

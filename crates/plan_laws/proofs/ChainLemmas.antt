@@ -15,6 +15,7 @@ use Rattle.hs_base.specs.Points.{tokens_of, timeline_of, start_at}
 use Rattle.hs_base.specs.Timelines.{MayFollow, Continues, IsTimeline, tokens_in}
 use Rattle.hs_base.specs.Missions.{IsValue, IsVar}
 use Rattle.hs_base.specs.Checked.{MayStandBehind, HasTokenOf, KeepsOrderAt, KeepsRules}
+use Rattle.hs_base.proofs.RuleLemmas.{order_kept}
 use Rattle.base_laws.proofs.ListLemmas.{each_at, slice_get-append_left, slice_get-middle, snoc_induction}
 use Rattle.base_laws.proofs.PointLemmas.{timeline-append, length-timeline_own, timeline_own, timeline_other, tokens-push}
 
@@ -64,11 +65,11 @@ chained_none m = record { each = λ v i k var at is. absurd (cc) }
 
 -- all extensions
 pub chained : (m : Mission) (es : List Extension) → EachAfter (KeepsRules m) [] es → Chained m (tokens_of es)
-chained m es rules = snoc_induction (λ es. Chained m (tokens_of es)) (KeepsRules m) (λ before e r h. chained-extension m before e r.order.each h) [] es (chained_none m) rules
+chained m es rules = snoc_induction (λ es. Chained m (tokens_of es)) (KeepsRules m) (λ before e r h. chained-extension m before e (order_kept r).each h) [] es (chained_none m) rules
 
 -- each timeline of a plan with an extension has a token
 pub has_tokens : (m : Mission) (es : List Extension) → EachAfter (KeepsRules m) [] es → (es ≡ [] → ⊥) → (v : ℕ) → v < length m.vars → HasTokenOf (tokens_of es) v
-has_tokens m es rules = snoc_induction (λ es. (es ≡ [] → ⊥) → (v : ℕ) → v < length m.vars → HasTokenOf (tokens_of es) v) (KeepsRules m) (λ before e r h some. r.order.all) [] es (λ some. absurd (some refl)) rules
+has_tokens m es rules = snoc_induction (λ es. (es ≡ [] → ⊥) → (v : ℕ) → v < length m.vars → HasTokenOf (tokens_of es) v) (KeepsRules m) (λ before e r h some. (order_kept r).all) [] es (λ some. absurd (some refl)) rules
 
 -- what may stand behind others may follow the last of them
 behind_last : (var : Var) (front : List Kind) (prev : Kind) (value : ℕ) → MayStandBehind var (front ++ prev ∷ []) value → MayFollow var prev.value.0 value

@@ -1,9 +1,9 @@
--- A fault is of one number, and excludes a checked plan.
-use Rattle.std.proofs.Common.{◌≡◌, ◌≢◌, ℕ, zero, suc, ◌<◌, List, [], ◌∷◌, ◌++◌, refl, sym, ap, ◌∙◌, subst, arith, append_assoc, append-nil, inl, inr}
+-- A fault excludes a checked plan, and two faults of an extension are of one rule.
+use Rattle.std.proofs.Common.{◌≡◌, ◌≢◌, ℕ, ◌<◌, List, [], ◌∷◌, ◌++◌, refl, sym, ap, ◌∙◌, subst, arith, append_assoc, append-nil, inl, inr, Some}
 use Rattle.std.proofs.lemmas.Int.{ints}
 use Rattle.std.proofs.lemmas.Bool.{cases_lt}
-use Rattle.std.specs.Prelude.{Contains, ◌-ℤ◌, ◌≤ℤ◌}
-use Rattle.std.specs.List.{AllByRecursion}
+use Rattle.std.specs.Prelude.{Contains, slice_get, ◌-ℤ◌, ◌≤ℤ◌}
+use Rattle.std.specs.List.{AllByRecursion, position_or_len}
 use Rattle.std.proofs.lemmas.List.Elements.{recursion_from_All}
 use Rattle.hs_base.specs.declared.net.Bound.{Bound}
 use Rattle.hs_base.specs.declared.mission.Kind.{Kind}
@@ -16,12 +16,12 @@ use Rattle.hs_base.specs.Schedule.{Schedule, Meets, Holds}
 use Rattle.hs_base.specs.Cycles.{Leads, total, IsNegativeCycle}
 use Rattle.hs_base.specs.Points.{tokens_of}
 use Rattle.hs_base.specs.Bounds.{bounds_of}
-use Rattle.hs_base.specs.Checked.{joined, HasTokenOf, KeepsOrderAt, KeepsOrder, KeepsFixedAt, KeepsSupportAt, KeepsRules, Checked}
-use Rattle.hs_base.specs.Faults.{IsFirstBreak, IsFirstBreakAt, IsMissingFirst, IsPassed, BeforeLimit, BeforeOrder, BeforeFixed, BeforeSupport, BeforeNeed, BeforeGoal, BeforeCycle, IsFault}
-use Rattle.base_laws.proofs.ListLemmas.{each_at, EachAfter-push}
+use Rattle.hs_base.specs.Checked.{joined, HasTokenOf, KeepsOrderAt, KeepsOrder, KeepsFixedAt, KeepsSupportAt, Rule, base, limits, order, fixed, supports, needs, goals, schedule, in_order, same_rule, before, Keeps, KeepsRules, Checked}
+use Rattle.hs_base.specs.Faults.{IsFirstBreak, IsFirstBreakAt, IsMissingFirst, IsPassed, rule_of, Names, IsFault}
+use Rattle.hs_base.proofs.RuleLemmas.{base_kept, limits_kept, order_kept, fixed_kept, supports_kept, needs_kept, goals_kept}
+use Rattle.base_laws.proofs.ListLemmas.{each_at, EachAfter-push, slice_get-take}
 use Rattle.base_laws.proofs.PointLemmas.{tokens-push}
 use Rattle.plan_laws.proofs.ChainLemmas.{contained_at}
-use Rattle.plan_laws.specs.Numbers.{Rule, rank}
 
 -- what holds of each holds of one between others
 each_after_split : {X : Type 0} (P : List X → X → Type 0) (front before : List X) (x : X) (after : List X) → EachAfter P front (before ++ x ∷ after) → P (front ++ before) x
@@ -31,7 +31,7 @@ each_after_split P front (y ∷ before) x after h = rw (← append_assoc front (
 no_break : {X : Type 0} (P : List X → X → Type 0) (xs before : List X) (x : X) → IsFirstBreak P xs before x → EachAfter P [] xs → ⊥
 no_break P xs before x b h = b.broken (each_after_split P [] before x b.after (subst (EachAfter P []) b.split h))
 
-no_break_at : {X : Type 0} (P : List X → X → Type 0) (xs : List X) (i : ℕ) → IsFirstBreakAt P xs i → EachAfter P [] xs → ⊥
+pub no_break_at : {X : Type 0} (P : List X → X → Type 0) (xs : List X) (i : ℕ) → IsFirstBreakAt P xs i → EachAfter P [] xs → ⊥
 no_break_at P xs i b h = no_break P xs b.0 b.1 b.2 h
 
 -- no first token is missing where the order is kept
@@ -65,84 +65,65 @@ no_cycle bounds cycle s c h =
     each_given [] g = tt
     each_given (b ∷ bs) g = let at = contained_at bounds b g.0 in (each_at (Holds s) bounds at.0 b h.each at.1, each_given bs g.1)
 
+-- a rule's place in their order
+abbrev place : Rule → ℕ
+place r = position_or_len (same_rule r) in_order
+
+there : (r : Rule) → slice_get in_order (place r) ≡ Some r
+there base = refl
+there limits = refl
+there order = refl
+there fixed = refl
+there supports = refl
+there needs = refl
+there goals = refl
+there schedule = refl
+
+same_place : (q r : Rule) → place q ≡ place r → q ≡ r
+same_place q r same = let both : Some q ≡ Some r = sym (there q) ∙ ap (slice_get in_order) same ∙ there r in cc
+
+-- what holds of the rules before one holds of each of them
+earlier_kept : (P : Rule → Type 0) (q r : Rule) → place q < place r → AllByRecursion P (before r) → P q
+earlier_kept P q r less kept = each_at P (before r) (place q) q kept (slice_get-take in_order (place q) (place r) less ∙ there q)
+
+-- the rules of a checked plan's last extension
+last_kept : (m : Mission) (es : List Extension) (e : Extension) → Checked m (joined es e) → KeepsRules m es e
+last_kept m es e c = (EachAfter-push (KeepsRules m) [] es e c.rules).1
+
 module _ (m : Mission) (es : List Extension) (e : Extension) where
-  kept1 : BeforeLimit m es e → (i : ℕ) → i < 1 → Rule m es e i
-  kept1 b zero below = b.base
-  kept1 b (suc i) below = absurd (omega arith)
-
-  kept2 : BeforeOrder m es e → (i : ℕ) → i < 2 → Rule m es e i
-  kept2 b zero below = b.earlier.base
-  kept2 b (suc zero) below = b.limits
-  kept2 b (suc (suc i)) below = absurd (omega arith)
-
-  kept3 : BeforeFixed m es e → (i : ℕ) → i < 3 → Rule m es e i
-  kept3 b i below = elim (cases_lt i 2) [ inl less ↦ kept2 b.earlier i less | inr last ↦ let at : 2 ≡ i = omega arith in subst (Rule m es e) at b.order ]
-
-  kept4 : BeforeSupport m es e → (i : ℕ) → i < 4 → Rule m es e i
-  kept4 b i below = elim (cases_lt i 3) [ inl less ↦ kept3 b.earlier i less | inr last ↦ let at : 3 ≡ i = omega arith in subst (Rule m es e) at b.fixed ]
-
-  kept5 : BeforeNeed m es e → (i : ℕ) → i < 5 → Rule m es e i
-  kept5 b i below = elim (cases_lt i 4) [ inl less ↦ kept4 b.earlier i less | inr last ↦ let at : 4 ≡ i = omega arith in subst (Rule m es e) at b.supports ]
-
-  kept6 : BeforeGoal m es e → (i : ℕ) → i < 6 → Rule m es e i
-  kept6 b i below = elim (cases_lt i 5) [ inl less ↦ kept5 b.earlier i less | inr last ↦ let at : 5 ≡ i = omega arith in subst (Rule m es e) at b.needs ]
-
-  kept7 : BeforeCycle m es e → (i : ℕ) → i < 7 → Rule m es e i
-  kept7 b i below = elim (cases_lt i 6) [ inl less ↦ kept6 b.earlier i less | inr last ↦ let at : 6 ≡ i = omega arith in subst (Rule m es e) at b.goals ]
-
-  -- the rules that are looked at before a fault's own hold
-  pub kept : (f : Fault) → f ≢ NoMemoryLeft → IsFault m es e f → (i : ℕ) → i < rank f → Rule m es e i
-  kept (Base g c) some f i below = absurd (omega arith)
-  kept (OverLimit p t) some f i below = kept1 f.0 i below
-  kept (Order v p) some f i below = kept2 f.0 i below
-  kept (Fixed n) some f i below = kept3 f.0 i below
-  kept (WrongSupport n) some f i below = kept4 f.0 i below
-  kept (Unsupported v p n) some f i below = kept5 f.0 i below
-  kept (NoGoal n) some f i below = kept6 f.0 i below
-  kept (Cycle bs) some f i below = kept7 f.0 i below
-  kept NoMemoryLeft some f i below = absurd (some refl)
-
-  -- and its own rule doesn't
-  pub broken : (f : Fault) → f ≢ NoMemoryLeft → IsFault m es e f → Rule m es e (rank f) → ⊥
-  broken (Base g c) some f rule = f.0 rule
-  broken (OverLimit p t) some f rule = f.1 rule
-  broken (Order v p) some f rule = elim f.1 [ inl b ↦ no_break (KeepsOrderAt m es) e.tokens b.before b.token b.first rule.each | inr b ↦ none_missing m es e v.0 b.0 rule ]
-  broken (Fixed n) some f rule = elim f.1 [ inl b ↦ no_break_at (KeepsFixedAt es e) e.fixed n b rule.each | inr b ↦ b.broken rule.since ]
-  broken (WrongSupport n) some f rule = no_break_at (KeepsSupportAt m es e) e.supports n f.1 rule
-  broken (Unsupported v p n) some f rule = f.1.here.broken (rule.each (record { sv = v; place = p }) n f.1.here.need f.1.here.is_need)
-  broken (NoGoal n) some f rule = f.1.broken (rule.each n)
-  broken (Cycle bs) some f rule = no_cycle (bounds_of m (joined es e)) bs rule.0 f.1 rule.1
-  broken NoMemoryLeft some f rule = some refl
-
-  -- of two faults the numbers are the same
-  pub one_number : (f g : Fault) → f ≢ NoMemoryLeft → g ≢ NoMemoryLeft → IsFault m es e f → IsFault m es e g → rank f ≡ rank g
-  one_number f g some_f some_g is_f is_g = elim (cases_lt (rank f) (rank g)) [
-    | inl less ↦ absurd (broken f some_f is_f (kept g some_g is_g (rank f) less))
-    | inr more ↦ elim (cases_lt (rank g) (rank f)) [ inl less ↦ absurd (broken g some_g is_g (kept f some_f is_f (rank g) less)) | inr same ↦ omega arith ]
-  ]
+  -- a fault's own rule isn't kept
+  pub broken : (f : Fault) → f ≢ NoMemoryLeft → Names m es e f → Keeps m es e (rule_of f) → ⊥
+  broken (Base g c) some n rule = n.0 rule
+  broken (OverLimit p t) some n rule = n.0 rule
+  broken (Order v p) some n rule = elim n [ inl b ↦ no_break (KeepsOrderAt m es) e.tokens b.before b.token b.first rule.each | inr b ↦ none_missing m es e v.0 b.0 rule ]
+  broken (Fixed i) some n rule = elim n [ inl b ↦ no_break_at (KeepsFixedAt es e) e.fixed i b rule.each | inr b ↦ b.broken rule.since ]
+  broken (WrongSupport i) some n rule = no_break_at (KeepsSupportAt m es e) e.supports i n rule
+  broken (Unsupported v p i) some n rule = n.here.broken (rule.each (record { sv = v; place = p }) i n.here.need n.here.is_need)
+  broken (NoGoal i) some n rule = n.broken (rule.each i)
+  broken (Cycle bs) some n rule = no_cycle (bounds_of m (joined es e)) bs rule.0 n rule.1
+  broken NoMemoryLeft some n rule = some refl
 
   -- the rules of a checked plan's last extension
-  rules : Checked m (joined es e) → (i : ℕ) → i < 8 → Rule m es e i
-  rules c zero below = (EachAfter-push (KeepsRules m) [] es e c.rules).1.base
-  rules c (suc zero) below = (EachAfter-push (KeepsRules m) [] es e c.rules).1.limits
-  rules c (suc (suc zero)) below = (EachAfter-push (KeepsRules m) [] es e c.rules).1.order
-  rules c (suc (suc (suc zero))) below = (EachAfter-push (KeepsRules m) [] es e c.rules).1.fixed
-  rules c (suc (suc (suc (suc zero)))) below = (EachAfter-push (KeepsRules m) [] es e c.rules).1.supports
-  rules c (suc (suc (suc (suc (suc zero))))) below = (EachAfter-push (KeepsRules m) [] es e c.rules).1.needs
-  rules c (suc (suc (suc (suc (suc (suc zero)))))) below = (EachAfter-push (KeepsRules m) [] es e c.rules).1.goals
-  rules c (suc (suc (suc (suc (suc (suc (suc i))))))) below = let at : 7 ≡ suc (suc (suc (suc (suc (suc (suc i)))))) = omega arith in subst (Rule m es e) at (c.schedule, c.meets)
-
-  rank_below : (f : Fault) → rank f < 8
-  rank_below (Base g c) = omega arith
-  rank_below (OverLimit p t) = omega arith
-  rank_below (Order v p) = omega arith
-  rank_below (Fixed n) = omega arith
-  rank_below (WrongSupport n) = omega arith
-  rank_below (Unsupported v p n) = omega arith
-  rank_below (NoGoal n) = omega arith
-  rank_below (Cycle bs) = omega arith
-  rank_below NoMemoryLeft = omega arith
+  rules : Checked m (joined es e) → (r : Rule) → Keeps m es e r
+  rules c base = base_kept (last_kept m es e c)
+  rules c limits = limits_kept (last_kept m es e c)
+  rules c order = order_kept (last_kept m es e c)
+  rules c fixed = fixed_kept (last_kept m es e c)
+  rules c supports = supports_kept (last_kept m es e c)
+  rules c needs = needs_kept (last_kept m es e c)
+  rules c goals = goals_kept (last_kept m es e c)
+  rules c schedule = (c.schedule, c.meets)
 
   -- a fault excludes that the plan with the extension is checked
   pub not_checked : (f : Fault) → f ≢ NoMemoryLeft → IsFault m es e f → Checked m (joined es e) → ⊥
-  not_checked f some is c = broken f some is (rules c (rank f) (rank_below f))
+  not_checked f some is c = broken f some is.1 (rules c (rule_of f))
+
+  -- two faults are of one rule: the one of an earlier rule would be of a rule that is kept
+  pub one_rule : (f g : Fault) → f ≢ NoMemoryLeft → g ≢ NoMemoryLeft → IsFault m es e f → IsFault m es e g → rule_of f ≡ rule_of g
+  one_rule f g some_f some_g is_f is_g = elim (cases_lt (place (rule_of f)) (place (rule_of g))) [
+    | inl less ↦ absurd (broken f some_f is_f.1 (earlier_kept (Keeps m es e) (rule_of f) (rule_of g) less is_g.0))
+    | inr more ↦ elim (cases_lt (place (rule_of g)) (place (rule_of f))) [
+      | inl less ↦ absurd (broken g some_g is_g.1 (earlier_kept (Keeps m es e) (rule_of g) (rule_of f) less is_f.0))
+      | inr same ↦ let here : place (rule_of f) ≡ place (rule_of g) = omega arith in same_place (rule_of f) (rule_of g) here
+    ]
+  ]

@@ -28,6 +28,7 @@ use Rattle.hs_base.specs.Needs.{need_at, choice_by}
 use Rattle.hs_base.specs.Bounds.{apart, exactly, on_some, relation_bounds, is_fixed, goals_of, new_bounds, bounds_of, horizon_bounds, point_bounds, length_bounds, start_bounds, last_bound, last_bounds, support_bounds, goal_bounds, fixed_bounds, since_bounds}
 use Rattle.hs_base.specs.Missions.{IsGoal, IsMission, HasRanges}
 use Rattle.hs_base.specs.Checked.{IsEntryOf, KeepsFixedAt, KeepsRules}
+use Rattle.hs_base.proofs.RuleLemmas.{fixed_kept, goals_kept}
 use Rattle.base_laws.proofs.ListLemmas.{each_both, each_weaker, snoc_induction, join_after-push}
 use Rattle.base_laws.proofs.MissionLemmas.{value_is, choice_ranges, horizon_is}
 use Rattle.base_laws.proofs.PointLemmas.{named, count-push, horizon_number, timeline-append, length-timeline_own, tokens-push}
@@ -178,7 +179,7 @@ module _ (m : Mission) (mission : IsMission m) (before : List Extension) (e : Ex
   fixed front [] h = tt
   fixed front (t ∷ ts) h =
       each_both (IsFit c) (exactly t.point.0 t.at) (fixed_bounds ts)
-      (fit_apart c t.point.0 0 (range t.at t.at) (omega (arith, h.0.below, grows)) (omega arith) (omega (arith, ints, h.0.at.0), omega (arith, ints), omega (arith, ints, h.0.at.1, rules.fixed.since.1)))
+      (fit_apart c t.point.0 0 (range t.at t.at) (omega (arith, h.0.below, grows)) (omega arith) (omega (arith, ints, h.0.at.0), omega (arith, ints), omega (arith, ints, h.0.at.1, (fixed_kept rules).since.1)))
       (fixed (front ++ t ∷ []) ts h.1)
 
   sinces : AllByRecursion (IsFit c) (since_bounds es e.since)
@@ -187,12 +188,12 @@ module _ (m : Mission) (mission : IsMission m) (before : List Extension) (e : Ex
       each : (x : ℕ) → (1 ≤ x) × (x < 1 + (c - 1)) → AllByRecursion (IsFit c) (cond (is_fixed es x) [] (bound x 0 (neg_ℤ e.since) ∷ []))
       each x h = elim (cases_Bool (is_fixed es x)) [
         | inl set ↦ rw set tt
-        | inr free ↦ rw free (record { from = omega (arith, h.0, h.1); to = omega arith; least = omega (arith, ints, rules.fixed.since.1); most = omega (arith, ints, rules.fixed.since.0) }, tt)
+        | inr free ↦ rw free (record { from = omega (arith, h.0, h.1); to = omega arith; least = omega (arith, ints, (fixed_kept rules).since.1); most = omega (arith, ints, (fixed_kept rules).since.0) }, tt)
       ]
 
   pub new_fit : AllByRecursion (IsFit c) (new_bounds m before e)
   new_fit =
-      each_both (IsFit c) _ _ (each_both (IsFit c) _ _ (each_both (IsFit c) _ _ (each_both (IsFit c) _ _ (each_both (IsFit c) _ _ (each_both (IsFit c) _ _ (each_both (IsFit c) _ _ (each_both (IsFit c) _ _ horizons points) (lengths (refs_after (tokens_of before) e.tokens))) starts) lasts) (supports e.supports)) (goals (goals_of m k) e.goals goals_here rules.goals.each)) (fixed [] e.fixed rules.fixed.each)) sinces
+      each_both (IsFit c) _ _ (each_both (IsFit c) _ _ (each_both (IsFit c) _ _ (each_both (IsFit c) _ _ (each_both (IsFit c) _ _ (each_both (IsFit c) _ _ (each_both (IsFit c) _ _ (each_both (IsFit c) _ _ horizons points) (lengths (refs_after (tokens_of before) e.tokens))) starts) lasts) (supports e.supports)) (goals (goals_of m k) e.goals goals_here (goals_kept rules).each)) (fixed [] e.fixed (fixed_kept rules).each)) sinces
 
 -- all bounds of a plan that keeps its rules
 pub bounds_fit : (m : Mission) (es : List Extension) → IsMission m → EachAfter (KeepsRules m) [] es → AllByRecursion (IsFit (count es)) (bounds_of m es)

@@ -17,6 +17,7 @@ use Rattle.hs_base.specs.Ranges.{InRange}
 use Rattle.hs_base.specs.Points.{tokens_of, timeline_of, start, stop, token_at}
 use Rattle.hs_base.specs.Bounds.{apart, on_some, new_bounds, IsScheduleOf, goals_of, goal_bounds}
 use Rattle.hs_base.specs.Checked.{KeepsRules, IsEntryOf}
+use Rattle.hs_base.proofs.RuleLemmas.{base_kept, goals_kept}
 use Rattle.base_laws.proofs.ListLemmas.{each_split, each_both, each_weaker, snoc_induction, EachAfter-both, slice_get-append_left}
 use Rattle.base_laws.proofs.PointLemmas.{timeline-append, tokens-push, ending_kept, start_kept}
 use Rattle.plan_laws.proofs.LengthLemmas.{in_range, goal_part, each_extension}
@@ -70,7 +71,7 @@ pub record GoalsAt (m : Mission) (s : Schedule) (es : List Extension) : Type 0 w
   pub each : AllByRecursion (λ (g : Horizon). AllByRecursion (GoalAt es s) g.goals) (take (length es) m.horizons)
 
 goals-push : (m : Mission) (s : Schedule) (before : List Extension) (e : Extension) → KeepsRules m before e → Meets (new_bounds m before e) s → GoalsAt m s before → GoalsAt m s (before ++ e ∷ [])
-goals-push m s before e rules h p = by_horizon m.horizons refl rules.base.horizon_left
+goals-push m s before e rules h p = by_horizon m.horizons refl (base_kept rules).horizon_left
   where
     -- some horizon is left, so the list of horizons has one
     by_horizon : (hs : List Horizon) → hs ≡ m.horizons → length before < length m.horizons → GoalsAt m s (before ++ e ∷ [])
@@ -82,7 +83,7 @@ goals-push m s before e rules h p = by_horizon m.horizons refl rules.base.horizo
         let here : slice_get m.horizons (length before) ≡ Some g = slice_get-get_or m.horizons (length before) d below in
         let at : length before ≡ k - 1 = omega arith in
         let goals : goals_of m k ≡ g.goals = ap (λ i. on_some (slice_get m.horizons i) (λ (x : Horizon). x.goals)) (sym at) ∙ ap (λ o. on_some o (λ (x : Horizon). x.goals)) here in
-        let new : AllByRecursion (GoalAt es s) g.goals = subst (λ (l : List Goal). AllByRecursion (GoalAt es s) l) goals (goals_new es s (goals_of m k) e.goals h.origin rules.goals.each (goal_part m s before e h).each) in
+        let new : AllByRecursion (GoalAt es s) g.goals = subst (λ (l : List Goal). AllByRecursion (GoalAt es s) l) goals (goals_new es s (goals_of m k) e.goals h.origin (goals_kept rules).each (goal_part m s before e h).each) in
         let old : AllByRecursion (λ (x : Horizon). AllByRecursion (GoalAt es s) x.goals) (take (length before) m.horizons) = each_weaker (λ (x : Horizon). AllByRecursion (GoalAt before s) x.goals) (λ (x : Horizon). AllByRecursion (GoalAt es s) x.goals) (λ x q. each_weaker (GoalAt before s) (GoalAt es s) (goal_kept s before e) x.goals q) (take (length before) m.horizons) p.each in
         let size : take (length es) m.horizons ≡ take (length before) m.horizons ++ g ∷ [] = ap (λ n. take n m.horizons) (length-append before (e ∷ [])) ∙ take_more m.horizons (length before) d below in
         record { each = subst (λ (l : List Horizon). AllByRecursion (λ (x : Horizon). AllByRecursion (GoalAt es s) x.goals) l) (sym size) (each_both (λ (x : Horizon). AllByRecursion (GoalAt es s) x.goals) (take (length before) m.horizons) (g ∷ []) old (new, tt)) }

@@ -25,6 +25,7 @@ use Rattle.hs_base.specs.Bounds.{IsScheduleOf}
 use Rattle.hs_base.specs.Timelines.{Token, IsTimeline, LastsRightly, Spans, Relates, StandsAt, IsLastPlace, MeetsGoal, MeetsNeed, Legal, tokens_in, timelines}
 use Rattle.hs_base.specs.Missions.{IsVar, IsChoice, IsNeed, IsGoal, IsHorizon}
 use Rattle.hs_base.specs.Checked.{supports_of, KeepsNeeds, KeepsRules, Checked}
+use Rattle.hs_base.proofs.RuleLemmas.{needs_kept}
 use Rattle.base_laws.proofs.ListLemmas.{each_at, snoc_induction}
 use Rattle.base_laws.proofs.PointLemmas.{named, of_variable}
 use Rattle.plan_laws.proofs.ChainLemmas.{Chained, chained, has_tokens, timeline_is, value_there, contained_at}
@@ -213,7 +214,7 @@ module _ (m : Mission) (es : List Extension) (s : Schedule) (c : Checked m es) (
       (ch, r.by.place, y, (there.0, slice_get_within n.either there.0 ch there.1, get_or_from_slice_get n.either there.0 ch ch there.1), stands ch.by q.kind r.by.place below at (sym parts.1), subst (λ (t : Token). Relates ch.relation t y) (sym x_is) with_by)
 
   kept : KeepsNeeds m es
-  kept = snoc_induction (λ es. (es ≡ [] → ⊥) → KeepsNeeds m es) (KeepsRules m) (λ before e r p some. r.needs) [] es (λ some. absurd (some refl)) c.rules some
+  kept = snoc_induction (λ es. (es ≡ [] → ⊥) → KeepsNeeds m es) (KeepsRules m) (λ before e r p some. needs_kept r) [] es (λ some. absurd (some refl)) c.rules some
 
   needs : (n : Need) (i : ℕ) (x : Token) → Contains m.needs n → StandsAt ts n.of i x → MeetsNeed ts n x ⊎ ((is_deferrable n ≡ true) × IsLastPlace ts n.of i)
   needs n i x has st =

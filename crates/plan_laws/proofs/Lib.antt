@@ -7,4 +7,5 @@ pub mod GoalLemmas
 pub mod NeedLemmas
 pub mod LegalLemmas
 pub mod FaultLemmas
+pub mod OneFaultLemmas
 pub mod FitLemmas

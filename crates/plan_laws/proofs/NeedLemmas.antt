@@ -21,6 +21,7 @@ use Rattle.hs_base.specs.Needs.{needs_of, need_of, need_at, choice_by}
 use Rattle.hs_base.specs.Bounds.{on_some, relation_bounds, new_bounds, IsScheduleOf, support_bounds}
 use Rattle.hs_base.specs.Timelines.{Relates}
 use Rattle.hs_base.specs.Checked.{KeepsRules, KeepsSupportAt, supports_of}
+use Rattle.hs_base.proofs.RuleLemmas.{supports_kept}
 use Rattle.base_laws.proofs.ListLemmas.{each_split, each_both, each_weaker, snoc_induction, EachAfter-both}
 use Rattle.plan_laws.proofs.LengthLemmas.{in_range, support_part, each_extension}
 use Rattle.plan_laws.proofs.GoalLemmas.{token_kept, stop_kept, begin_kept}
@@ -95,7 +96,7 @@ served-push m s before e rules h p =
     let es = before ++ e ∷ [] in
     let more : supports_of es ≡ supports_of before ++ e.supports = flat_map-append (λ (x : Extension). x.supports) before (e ∷ []) ∙ ap (λ l. supports_of before ++ l) (append-nil e.supports) in
     let old = each_weaker (ServedAt m s before) (ServedAt m s es) (served_kept m s before e) (supports_of before) p.each in
-    let new = served_new m s before e [] e.supports rules.supports (support_part m s before e h).each in
+    let new = served_new m s before e [] e.supports (supports_kept rules) (support_part m s before e h).each in
     record { each = subst (λ (l : List Support). AllByRecursion (ServedAt m s es) l) (sym more) (each_both (ServedAt m s es) (supports_of before) e.supports old new) }
 
 none_served : (m : Mission) (s : Schedule) → AllServed m s []

@@ -1,4 +1,4 @@
-ghost use Rattle.std.specs.Prelude.{◌≡◌, ◌≢◌, List};
+ghost use Rattle.std.specs.Prelude.{◌≡◌, ◌≢◌, ◌⊎◌, List};
 ghost use Rattle.hs_base.specs.declared.net.Bound.{Bound};
 ghost use Rattle.hs_base.specs.declared.mission.Mission.{Mission};
 ghost use Rattle.hs_base.specs.declared.plan.Extension.{Extension};
@@ -6,9 +6,8 @@ ghost use Rattle.hs_base.specs.declared.fault.Fault.{Fault};
 ghost use Rattle.hs_base.specs.declared.fault.Fault.TheVariants.{Memory as NoMemoryLeft};
 ghost use Rattle.hs_base.specs.Schedule.{Schedule, Meets};
 ghost use Rattle.hs_base.specs.Cycles.{IsNegativeCycle};
-ghost use Rattle.hs_base.specs.Checked.{joined, Checked};
-ghost use Rattle.hs_base.specs.Faults.{IsFault};
-ghost use Rattle.plan_laws.specs.Numbers.{rank};
+ghost use Rattle.hs_base.specs.Checked.{joined, schedule, Checked};
+ghost use Rattle.hs_base.specs.Faults.{rule_of, IsFault};
 
 /// A negative cycle of bounds excludes a schedule of them.
 pub fn a_negative_cycle_has_no_schedule()
@@ -20,7 +19,7 @@ pub fn a_fault_excludes_a_checked_plan()
     ensures { (m : Mission) (es : List Extension) (e : Extension) (f : Fault) → f ≢ NoMemoryLeft → IsFault m es e f → Checked m (joined es e) → ⊥ }
 {}
 
-/// All faults of an extension are of one number.
-pub fn faults_are_of_one_number()
-    ensures { (m : Mission) (es : List Extension) (e : Extension) (f g : Fault) → f ≢ NoMemoryLeft → g ≢ NoMemoryLeft → IsFault m es e f → IsFault m es e g → rank f ≡ rank g }
+/// An extension has one fault, but for want of memory and for which negative cycle is named.
+pub fn an_extension_has_one_fault()
+    ensures { (m : Mission) (es : List Extension) (e : Extension) (f g : Fault) → f ≢ NoMemoryLeft → g ≢ NoMemoryLeft → IsFault m es e f → IsFault m es e g → (f ≡ g) ⊎ ((rule_of f ≡ schedule) × (rule_of g ≡ schedule)) }
 {}

@@ -9,7 +9,7 @@ mod timelines;
 
 pub use distances::bounds_of_a_plan_are_fit_for_distances;
 pub use faults::{
-    a_fault_excludes_a_checked_plan, a_negative_cycle_has_no_schedule, faults_are_of_one_number,
+    a_fault_excludes_a_checked_plan, a_negative_cycle_has_no_schedule, an_extension_has_one_fault,
 };
 pub use samples::{the_camera_plan_has_a_schedule, the_smallest_plan_has_a_schedule};
 pub use schedules::{

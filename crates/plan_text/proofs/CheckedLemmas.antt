@@ -17,6 +17,7 @@ use Rattle.hs_base.specs.declared.plan.Time.{Time}
 use Rattle.hs_base.specs.declared.plan.TokenRef.{TokenRef}
 use Rattle.hs_base.specs.Bounds.{goals_of}
 use Rattle.hs_base.specs.Checked.{Checked, KeepsRules, KeepsOrderAt, KeepsFixed, KeepsFixedAt, KeepsSupportAt, KeepsGoals, IsEntryOf, joined}
+use Rattle.hs_base.proofs.RuleLemmas.{base_kept, limits_kept, order_kept, fixed_kept, supports_kept, goals_kept}
 use Rattle.hs_base.specs.Missions.{IsKindOf, IsMission, IsVar}
 use Rattle.hs_base.specs.Needs.{needs_of, same_kind}
 use Rattle.hs_base.specs.Points.{tokens_of, timeline_of, token_at}
@@ -46,12 +47,12 @@ kinds-push m es e h rules p =
     let more = tokens-push es e in
     let one = length_push es e in
     let sum : length (tokens_of es ++ e.tokens) ≡ length (tokens_of es) + length e.tokens = length-append (tokens_of es) e.tokens in
-    let tokens : length e.tokens ≤ 128 = rules.limits.tokens in
+    let tokens : length e.tokens ≤ 128 = (limits_kept rules).tokens in
     let horizons : length m.horizons ≤ 1000 = h.few_horizons in
     record {
-      kinds = subst (AllByRecursion (IsKindOf m.vars)) (sym more) (each_both (IsKindOf m.vars) (tokens_of es) e.tokens p.kinds (new_kinds m es [] e.tokens h rules.order.each));
+      kinds = subst (AllByRecursion (IsKindOf m.vars)) (sym more) (each_both (IsKindOf m.vars) (tokens_of es) e.tokens p.kinds (new_kinds m es [] e.tokens h (order_kept rules).each));
       few = omega (arith, ap length more, sum, tokens, one, p.few);
-      extensions = omega (arith, one, horizons, rules.base.horizon_left);
+      extensions = omega (arith, one, horizons, (base_kept rules).horizon_left);
     }
 
 -- a token of the plan
@@ -117,15 +118,15 @@ extensions_writable m before [] h p rules = tt
 extensions_writable m before (e ∷ es) h p rules =
     let r = rules.0 in
     let more = kinds-push m before e h r p in
-    let same : e.base ≡ length before = r.base.base in
+    let same : e.base ≡ length before = (base_kept r).base in
     let low : e.base ≤ 1000 = omega (arith, same, p.extensions) in (
       record {
         base = omega (arith, ints, low);
-        since = r.fixed.since;
-        fixed = fixes_writable before e [] e.fixed r.fixed r.fixed.each;
-        tokens = new_kinds m before [] e.tokens h r.order.each;
-        supports = supports_writable m before e [] e.supports h more r.supports;
-        goals = goals_writable m before e more r.goals;
+        since = (fixed_kept r).since;
+        fixed = fixes_writable before e [] e.fixed (fixed_kept r) (fixed_kept r).each;
+        tokens = new_kinds m before [] e.tokens h (order_kept r).each;
+        supports = supports_writable m before e [] e.supports h more (supports_kept r);
+        goals = goals_writable m before e more (goals_kept r);
       },
       extensions_writable m (before ++ e ∷ []) es h more rules.1,
     )

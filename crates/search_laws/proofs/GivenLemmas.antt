@@ -4,6 +4,7 @@ use Rattle.std.proofs.lemmas.Option.{slice_get-get_or, slice_get-map, slice_get_
 use Rattle.std.specs.List.{AllByRecursion}
 use Rattle.std.specs.Prelude.{get_or, option_map}
 use Rattle.hs_base.specs.Checked.{KeepsOrderAt, KeepsRules, supports_of}
+use Rattle.hs_base.proofs.RuleLemmas.{order_kept}
 use Rattle.hs_base.specs.Points.{ending, place_of, points_of, stop, timeline_of, token_at, tokens_of}
 use Rattle.hs_base.specs.Walks.{EachAfter}
 use Rattle.hs_base.specs.declared.mission.Kind.{Kind}
@@ -40,7 +41,7 @@ tokens_inside m es rules = snoc_induction (λ es. AllByRecursion (λ (k : Kind).
     step before e r h =
         subst (AllByRecursion (λ (k : Kind). k.sv.0 < length m.vars)) (sym (tokens-push before e))
         (each_both (λ (k : Kind). k.sv.0 < length m.vars) (tokens_of before) e.tokens h
-        (each_alone (KeepsOrderAt m before) (λ (k : Kind). k.sv.0 < length m.vars) (λ new k o. slice_get_within m.vars k.sv.0 o.var o.is_var) [] e.tokens r.order.each))
+        (each_alone (KeepsOrderAt m before) (λ (k : Kind). k.sv.0 < length m.vars) (λ new k o. slice_get_within m.vars k.sv.0 o.var o.is_var) [] e.tokens (order_kept r).each))
 
 -- a token of the plan that is extended, in its row
 pub record IsGiven (b : Begun) (p : Partial) (t : TokenRef) : Type 0 where

@@ -6,7 +6,7 @@ use Rattle.std.proofs.lemmas.Option.{slice_get-get_or, slice_get_past, slice_get
 use Rattle.std.specs.List.{AllByRecursion}
 use Rattle.std.specs.Prelude.{get_or}
 use Rattle.hs_base.specs.Bounds.{goals_of, on_some}
-use Rattle.hs_base.specs.Checked.{Checked, IsEntryOf, KeepsFixed, KeepsFixedAt, KeepsGoals, KeepsLimits, KeepsRules, fixed_of, joined}
+use Rattle.hs_base.specs.Checked.{Checked, IsEntryOf, KeepsBase, KeepsFixed, KeepsFixedAt, KeepsGoals, KeepsLimits, KeepsNeeds, KeepsRules, fixed_of, joined}
 use Rattle.hs_base.specs.Points.{tokens_of}
 use Rattle.hs_base.specs.Ranges.{whole}
 use Rattle.hs_base.specs.Schedule.{Meets, Schedule}
@@ -91,15 +91,12 @@ module _ (m : Mission) (b : Begun) (p : Partial) (t : Schedule) (may : MayBegin 
   }
 
   pub keeps_rules : KeepsRules m b.base (extension m b p)
-  keeps_rules = record {
-    base = record { base = refl; horizon_left = slice_get_within m.horizons (length b.base) may.horizon may.is_horizon };
-    limits = keeps_limits;
-    order = keeps_order m b p t may good lawful flawless meets;
-    fixed = keeps_fixed;
-    supports = keeps_supports m b p t may good lawful flawless meets;
-    needs = record { each = served m b p may good lawful flawless };
-    goals = keeps_goals;
-  }
+  keeps_rules =
+      let base : KeepsBase m b.base (extension m b p) = record { base = refl; horizon_left = slice_get_within m.horizons (length b.base) may.horizon may.is_horizon } in
+      let order = keeps_order m b p t may good lawful flawless meets in
+      let supports = keeps_supports m b p t may good lawful flawless meets in
+      let needs : KeepsNeeds m (joined b.base (extension m b p)) = record { each = served m b p may good lawful flawless } in
+      record { each = (base, (keeps_limits, (order, (keeps_fixed, (supports, (needs, (keeps_goals, tt))))))) }
 
   pub plan_checked : Checked m (joined b.base (extension m b p))
   plan_checked = record {

@@ -6,6 +6,7 @@ use Rattle.std.proofs.lemmas.Option.{slice_get-get_or, slice_get_within}
 use Rattle.std.specs.Prelude.{insert}
 use Rattle.hs_base.specs.Bounds.{on_some}
 use Rattle.hs_base.specs.Checked.{KeepsRules}
+use Rattle.hs_base.proofs.RuleLemmas.{limits_kept}
 use Rattle.hs_base.specs.Points.{count, tokens_of}
 use Rattle.hs_base.specs.Schedule.{numbers_from}
 use Rattle.hs_base.specs.Walks.{EachAfter}
@@ -63,7 +64,7 @@ tokens_few m es rules = snoc_induction (λ es. length (tokens_of es) ≤ 128 * l
   where
     step : (before : List Extension) (e : Extension) → KeepsRules m before e → length (tokens_of before) ≤ 128 * length before → length (tokens_of (before ++ e ∷ [])) ≤ 128 * length (before ++ e ∷ [])
     step before e r h =
-        let few = r.limits.tokens in
+        let few = (limits_kept r).tokens in
         omega (arith, ap length (tokens-push before e), length-append (tokens_of before) e.tokens, length-append before (e ∷ []))
 
 -- one more token has its points among the first 131,072

@@ -5,6 +5,7 @@ use Rattle.std.specs.List.{AllByRecursion, list_any}
 use Rattle.std.specs.Prelude.{◌≤ℤ◌}
 use Rattle.hs_base.specs.Bounds.{apart, bounds_of, exactly, fixed_bounds, horizon_bounds, is_fixed, on_some, point_bounds, since_bounds}
 use Rattle.hs_base.specs.Checked.{KeepsFixedAt, KeepsRules, fixed_of}
+use Rattle.hs_base.proofs.RuleLemmas.{base_kept, limits_kept, fixed_kept}
 use Rattle.hs_base.specs.Points.{count, tokens_of}
 use Rattle.hs_base.specs.Ranges.{InRange, whole}
 use Rattle.hs_base.specs.Schedule.{Meets, Schedule, bound, numbers_from}
@@ -71,12 +72,12 @@ module _ (m : Mission) (few : length m.horizons ≤ 1000) where
 
   more_few : (before : List Extension) (e : Extension) → KeepsRules m before e → AreFew before → AreFew (before ++ e ∷ [])
   more_few before e r k =
-      let left = r.base.horizon_left in
-      let tokens = r.limits.tokens in
+      let left = (base_kept r).horizon_left in
+      let tokens = (limits_kept r).tokens in
       let size = length-append before (e ∷ []) in
       let many = ap length (tokens-push before e) ∙ length-append (tokens_of before) e.tokens in
       let more = ap length (fixed-push before e) ∙ length-append (fixed_of before) e.fixed in
-      let fixed = fixed_few before e e.fixed r.fixed.each in
+      let fixed = fixed_few before e e.fixed (fixed_kept r).each in
       let old = k.1 in
       let older = k.2 in
       (omega (arith, left, size), omega (arith, tokens, size, many, old), omega (arith, fixed, size, more, older, old, count_is before, few, left))

@@ -7,7 +7,6 @@ ghost use Rattle.hs_base.specs.Schedule.{bound};
 ghost use Rattle.search_tree.specs.PartialBounds.{backing_bounds};
 ghost use Rattle.timeline_db.specs.Kept.{from_since, goal_kept, kept_cell, lasting, lasting_within, narrow, until_last};
 
-use crate::lookups::{choice_at, need_at, value_at};
 use hs_base::{Bound, Goal, LAST, Memory, Mission, PointId, Range, Relation};
 use search_tree::{Backing, Cell, Held};
 
@@ -129,10 +128,10 @@ pub(crate) fn push_backing(
     requires { IsMission mission.now }
     ensures { OnOk result (made.new.items ≡ made.old.items ++ backing_bounds mission.now backing) }
 {
-    let Some(need) = need_at(mission, backing.token.kind, backing.need) else {
+    let Some(need) = mission.need(backing.token.kind, backing.need) else {
         return Ok(());
     };
-    match choice_at(need, backing.by.kind) {
+    match need.choice(backing.by.kind) {
         Some(choice) => push_relation(made, choice.relation, backing.token, backing.by),
         None => Ok(()),
     }
@@ -220,7 +219,7 @@ fn push_length(
     requires since { InRange whole outlook.since }
     ensures { OnOk result (made.new.items ≡ made.old.items ++ on_some (value_of mission.now held.kind) (λ v. lasting_within outlook.tick outlook.since held v.lasts)) }
 {
-    match value_at(mission, held.kind) {
+    match mission.value(held.kind) {
         Some(value) => push_within(made, outlook, held, value.lasts),
         None => Ok(()),
     }

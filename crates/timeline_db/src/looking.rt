@@ -11,7 +11,6 @@ ghost use Rattle.timeline_db.specs.Plannings.{IsOpen, partial_of};
 ghost use Rattle.timeline_db.specs.Tracked.{IsLine};
 
 use crate::course::is_kept;
-use crate::lookups::{need_at, value_at};
 use crate::{Db, Line};
 use hs_base::{FREE_POINTS, Horizon, Kind, Mission, NEW_TOKENS, Need, SvId, TokenRef, ValId};
 
@@ -84,7 +83,7 @@ impl Db {
         ensures { option_copied result ≡ slice_get (needs_of self.now.mission (held_by (partial_of self.now) token).kind) need }
     {
         let kind = self.kind(token)?;
-        need_at(self.base.mission(), kind, need)
+        self.base.mission().need(kind, need)
     }
 
     /// The kind of a token.
@@ -100,7 +99,7 @@ impl Db {
     pub fn next(&self, kind: Kind) -> &[ValId]
         ensures { result.now ≡ next_of self.now.mission kind }
     {
-        match value_at(self.base.mission(), kind) {
+        match self.base.mission().value(kind) {
             Some(value) => value.next.as_slice(),
             None => &[],
         }

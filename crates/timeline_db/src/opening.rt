@@ -24,7 +24,6 @@ use crate::course::{Course, add_all};
 use crate::draft::Draft;
 use crate::laying::lay_out;
 use crate::line::Line;
-use crate::lookups::value_at;
 use crate::{Db, Shut, Token};
 use hs_base::{Bound, Copies, Extension, LAST, Memory, Mission, PointId, Range, Time};
 use plan_check::Snapshot;
@@ -148,7 +147,7 @@ fn push_lasting(made: &mut Vec<Bound>, mission: &Mission, held: Held) -> Result<
     requires { IsMission mission.now }
     ensures { OnOk result (made.new.items ≡ made.old.items ++ on_some (value_of mission.now held.kind) (λ v. apart held.stop held.start v.lasts)) }
 {
-    match value_at(mission, held.kind) {
+    match mission.value(held.kind) {
         Some(value) => push_apart(made, held.stop, held.start, value.lasts),
         None => Ok(()),
     }

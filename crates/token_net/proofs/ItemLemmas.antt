@@ -1,9 +1,8 @@
 -- One more element of what the items go over.
-use Rattle.std.proofs.Common.{◌≡◌, ℕ, zero, suc, ◌+◌, ◌-◌, ◌<◌, ◌≤◌, Bool, true, List, [], ◌∷◌, ◌++◌, length, take, get_or, Some, inl, inr, refl, sym, ap, ◌∙◌, subst, arith, append_assoc, append-nil}
-use Rattle.std.proofs.lemmas.Bool.{cases_Bool}
+use Rattle.std.proofs.Common.{◌≡◌, ℕ, zero, suc, ◌+◌, ◌-◌, ◌<◌, ◌≤◌, List, [], ◌∷◌, ◌++◌, length, take, get_or, refl, sym, ap, ◌∙◌, arith, append_assoc, append-nil}
 use Rattle.std.proofs.lemmas.List.{take_more, take_all, get_or_default}
 use Rattle.std.proofs.lemmas.Grind.{flat_map-append}
-use Rattle.std.specs.Prelude.{flat_map, filter, slice_get, min}
+use Rattle.std.specs.Prelude.{flat_map, min}
 use Rattle.hs_base.specs.declared.mission.Goal.{Goal}
 use Rattle.hs_base.specs.declared.plan.TokenRef.{TokenRef}
 use Rattle.hs_base.specs.Schedule.{numbers_from}
@@ -56,17 +55,6 @@ goals_all rows n (g ∷ gs) [] i all = by_size i
     by_size (suc i) = refl
 goals_all rows n (g ∷ gs) (t ∷ ts) zero all = absurd (omega arith)
 goals_all rows n (g ∷ gs) (t ∷ ts) (suc i) all = ap (λ l. goal_row rows n g t ++ l) (goals_all rows n gs ts i (omega arith))
-
--- the element that passes with so many before it that do
-pub filter_at : {X : Type 0} (p : X → Bool) (xs : List X) (i : ℕ) (x : X) → i < length xs → x ≡ get_or xs i x → p x ≡ true → slice_get (filter p xs) (length (filter p (take i xs))) ≡ Some x
-filter_at p [] i x below is passes = absurd (omega arith)
-filter_at p (y ∷ xs) zero x below is passes =
-    let same : x ≡ y = is in
-    subst (λ z. slice_get (filter p (z ∷ xs)) 0 ≡ Some x) same (rw passes refl)
-filter_at p (y ∷ xs) (suc i) x below is passes = elim (cases_Bool (p y)) [
-  | inl here ↦ rw here (filter_at p xs i x (omega arith) is passes)
-  | inr fails ↦ rw fails (filter_at p xs i x (omega arith) is passes)
-]
 
 -- what is added at the end of what was made
 pub grown : {X : Type 0} (new made old part more all : List X) → new ≡ made ++ more → made ≡ old ++ part → all ≡ part ++ more → new ≡ old ++ all

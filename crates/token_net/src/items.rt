@@ -5,7 +5,6 @@ ghost use Rattle.hs_base.specs.Missions.{IsMission};
 ghost use Rattle.token_net.specs.Rows.{length_row, length_rows, start_rows, last_in, last_rows, support_row, support_rows, goal_row, goal_rows, since_rows};
 
 use crate::apart::{Ends, add_apart, add_exactly, add_relation};
-use crate::lookups::{choice_at, need_at, value_at};
 use crate::table::{Placed, Table};
 use hs_base::{Bound, Goal, LAST, List, Memory, Mission, PointId, Range, Support, Time, TokenRef};
 
@@ -64,7 +63,7 @@ fn add_length(
     let Some(kind) = table.kind(token) else {
         return Ok(());
     };
-    match value_at(mission, kind) {
+    match mission.value(kind) {
         Some(value) => add_apart(made, table.stop(token), table.start(token), value.lasts),
         None => Ok(()),
     }
@@ -138,13 +137,13 @@ fn add_support(
     let Some(kind) = table.kind(support.token) else {
         return Ok(());
     };
-    let Some(need) = need_at(mission, kind, support.need) else {
+    let Some(need) = mission.need(kind, support.need) else {
         return Ok(());
     };
     let Some(by) = table.kind(support.by) else {
         return Ok(());
     };
-    match choice_at(need, by) {
+    match need.choice(by) {
         Some(choice) => add_relation(
             made,
             choice.relation,

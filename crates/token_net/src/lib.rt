@@ -4,7 +4,6 @@
 mod apart;
 mod bounding;
 mod items;
-mod lookups;
 mod numbers;
 mod table;
 

@@ -2,7 +2,6 @@ ghost use Rattle.std.specs.Prelude.{◌≡◌, ◌+◌, ◌<◌, ◌≤◌, ◌^
 ghost use Rattle.hs_base.specs.Points.{count, points_of, place_of, ending, start, stop, hor, is_observed, timeline_of};
 ghost use Rattle.token_net.specs.Ends.{kind_ending, IsNth};
 
-use crate::lookups::value_at;
 use hs_base::{Extension, Kind, Mission, Plan, PointId, SvId, TokenRef};
 
 /// The number of points of a plan: Z, a horizon point for each extension, and the end of each
@@ -135,7 +134,7 @@ pub fn observed(mission: &Mission, plan: &Plan, point: PointId) -> bool
     let Some(kind) = kind_at(plan.extensions.as_slice(), point) else {
         return false;
     };
-    match value_at(mission, kind) {
+    match mission.value(kind) {
         Some(value) => value.by_device,
         None => false,
     }

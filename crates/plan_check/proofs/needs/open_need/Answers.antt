@@ -21,7 +21,7 @@ returns-then-not-is_settled c =
     let inv = c.loop-need.invariant in
     let is : n ≡ get_or needs i n = subst (λ (l : List Need). n ≡ get_or l i n) c.as_slice-need-items.ensures c.need-item.is in
     let below : i < length needs = subst (λ (l : List Need). i < length l) c.as_slice-need-items.ensures c.loop-need-test.true in
-    let own : same_kind n.of k ≡ true = sym c.is_same.ensures ∙ c.if-not-is_same.false in
+    let own : same_kind n.of k ≡ true = sym c.is.ensures ∙ c.if-not-is.false in
     let unsettled : (is_claimed set t c.loop-need.number || (last && is_deferrable n)) ≡ false = sym c.is_settled.ensures ∙ c.if-not-is_settled.true in
     let here = open_here needs k set t last i n below is own (subst (λ (x : ℕ). (is_claimed set t x || (last && is_deferrable n)) ≡ false) inv.number unsettled) in
     (subst (λ (x : ℕ). IsOpen (needs_of c.args.mission.now k) set t last x) (sym inv.number) here, inv.none)
@@ -38,7 +38,7 @@ loop-need-preserved c =
     let inv = c.loop-need.invariant in
     let is : n ≡ get_or needs i n = subst (λ (l : List Need). n ≡ get_or l i n) c.as_slice-need-items.ensures c.need-item.is in
     let below : i < length needs = subst (λ (l : List Need). i < length l) c.as_slice-need-items.ensures c.loop-need-test.true in
-    let own : same_kind n.of k ≡ true = sym c.is_same.ensures ∙ c.if-not-is_same.false in
+    let own : same_kind n.of k ≡ true = sym c.is.ensures ∙ c.if-not-is.false in
     let settled : (is_claimed set t c.loop-need.number || (last && is_deferrable n)) ≡ true = sym c.is_settled.ensures ∙ c.if-not-is_settled.false in
     let not_here = not_open_here needs k set t last i n below is own (subst (λ (x : ℕ). (is_claimed set t x || (last && is_deferrable n)) ≡ true) inv.number settled) in
     record {

@@ -23,7 +23,7 @@ of_plan-requires c = rw (c.len.ensures, c.as_slice.ensures) (all_below c.args.mi
 pub check_token-requires : goal.check_token-requires
 check_token-requires c =
     record {
-      few = row_few c.args.mission.now c.args.plan.now.extensions c.args.extension.now c.as_slice-tokens.result.now c.loop-kind.kind-index c.loop-kind.lines.rows.items (get_or c.as_slice-tokens.result.now c.loop-kind.kind-index no_kind).sv.0 c.requires.checked.mission c.requires.checked.rules c.requires.before.limits c.as_slice-tokens.ensures c.loop-kind.invariant.lines;
+      few = row_few c.args.mission.now c.args.plan.now.extensions c.args.extension.now c.as_slice-tokens.result.now c.loop-kind.kind-index c.loop-kind.lines.rows.items (get_or c.as_slice-tokens.result.now c.loop-kind.kind-index no_kind).sv.0 c.requires.checked.mission c.requires.checked.rules c.requires.before.1.0 c.as_slice-tokens.ensures c.loop-kind.invariant.lines;
     }
 
 pub returns-in_err-check_token-clause-fault : goal.returns-in_err-check_token-clause-fault

@@ -9,7 +9,7 @@ use Rattle.plan_check.proofs.NeedLemmas.{needs_kept, open_fault}
 use Rattle.plan_check.proofs.services.check_services.Goals as goal
 
 pub check_needs-requires-clause-few : goal.check_needs-requires-clause-few
-check_needs-requires-clause-few c = λ v. row_few_all c.args.mission.now c.args.plan.now.extensions c.args.extension.now c.args.lines.now.rows.items v c.requires.checked.mission c.requires.checked.rules c.requires.before.earlier.earlier.limits c.requires.lines
+check_needs-requires-clause-few c = λ v. row_few_all c.args.mission.now c.args.plan.now.extensions c.args.extension.now c.args.lines.now.rows.items v c.requires.checked.mission c.requires.checked.rules c.requires.before.1.0 c.requires.lines
 
 pub returns-in_err-check_needs-clause-fault : goal.returns-in_err-check_needs-clause-fault
 returns-in_err-check_needs-clause-fault c =
@@ -21,8 +21,9 @@ returns-in_err-check_needs-clause-fault c =
     let f = c.in_err-check_needs.field-0.0 in
     let base : KeepsNeeds m es = all_needs m c.requires.checked.mission es c.requires.checked.rules in
     let here : IsOpenFault m set rows e.tokens f = subst (λ (l : List Kind). IsOpenFault m set rows l f) c.as_slice.ensures c.in_err-check_needs.ensures.fault in
+    let before = c.requires.before in
     let p = err_from_is_err_and c.from_residual-in_err-check_needs.result c.from_residual-in_err-check_needs.ensures.1 in
-    rw (p.1, p.2) (open_fault m es e rows set c.requires.lines c.in_ok-claims.ensures.claims base f (record { earlier = c.requires.before; supports = c.in_ok-claims.ensures.kept }) here)
+    rw (p.1, p.2) (open_fault m es e rows set c.requires.lines c.in_ok-claims.ensures.claims base f (before.0, (before.1.0, (before.1.1.0, (before.1.1.1.0, (c.in_ok-claims.ensures.kept, tt))))) here)
 
 pub returns-clause-needs : goal.returns-clause-needs
 returns-clause-needs c =

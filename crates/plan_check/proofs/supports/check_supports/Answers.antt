@@ -30,12 +30,12 @@ returns-then-not-is_right-clause-fault c =
 
 pub overflow_cast-result : goal.overflow_cast-result
 overflow_cast-result c =
-    let fits = number_fits c.args.mission.now c.args.plan.now.extensions c.args.extension.now c.args.lines.now.rows.items c.requires.lines c.as_slice-supports.result.now c.loop-i.i no_support c.loop-i-test.true c.loop-i.invariant.kept c.requires.checked.mission c.requires.checked.rules c.requires.before.earlier.earlier.limits c.loop-i.invariant.number in
+    let fits = number_fits c.args.mission.now c.args.plan.now.extensions c.args.extension.now c.args.lines.now.rows.items c.requires.lines c.as_slice-supports.result.now c.loop-i.i no_support c.loop-i-test.true c.loop-i.invariant.kept c.requires.checked.mission c.requires.checked.rules c.requires.before.1.0 c.loop-i.invariant.number in
     omega (arith, fits)
 
 pub overflow_cast-result-then-not-branch : goal.overflow_cast-result-then-not-branch
 overflow_cast-result-then-not-branch c =
-    let fits = number_fits c.args.mission.now c.args.plan.now.extensions c.args.extension.now c.args.lines.now.rows.items c.requires.lines c.as_slice-supports.result.now c.loop-i.i no_support c.loop-i-test.true c.loop-i.invariant.kept c.requires.checked.mission c.requires.checked.rules c.requires.before.earlier.earlier.limits c.loop-i.invariant.number in
+    let fits = number_fits c.args.mission.now c.args.plan.now.extensions c.args.extension.now c.args.lines.now.rows.items c.requires.lines c.as_slice-supports.result.now c.loop-i.i no_support c.loop-i-test.true c.loop-i.invariant.kept c.requires.checked.mission c.requires.checked.rules c.requires.before.1.0 c.loop-i.invariant.number in
     omega (arith, fits)
 
 pub returns-then-not-branch-clause-fault : goal.returns-then-not-branch-clause-fault
@@ -72,5 +72,5 @@ loop-i-preserved c =
     record {
       kept = each_more (KeepsSupportAt m es e) supports i no_support c.loop-i-test.true inv.kept next;
       claims = subst (λ (l : List Support). AreClaims l c.insert.new.self.set) more (c.in_ok-insert.ensures.claims (supports_of es ++ take i supports) inv.claims);
-      number = counted_next m es e rows c.requires.lines supports i no_support c.loop-i-test.true inv.kept c.requires.checked.mission c.requires.checked.rules c.requires.before.earlier.earlier.limits inv.number right.0 next.serving;
+      number = counted_next m es e rows c.requires.lines supports i no_support c.loop-i-test.true inv.kept c.requires.checked.mission c.requires.checked.rules c.requires.before.1.0 inv.number right.0 next.serving;
     }

@@ -5,8 +5,8 @@ use Rattle.std.proofs.lemmas.List.{take_all}
 use Rattle.std.proofs.lemmas.Option.{slice_get_past}
 use Rattle.std.specs.Prelude.{filter, slice_get}
 use Rattle.hs_base.specs.Needs.{same_kind}
-use Rattle.token_net.proofs.ItemLemmas.{filter_at}
-use Rattle.timeline_db.proofs.lookups.need_among.Goals as goal
+use Rattle.hs_base.proofs.NeedLemmas.{filter_at}
+use Rattle.hs_base.proofs.mission.need_among.Goals as goal
 
 pub returns-then-left-eq0 : goal.returns-then-left-eq0
 returns-then-left-eq0 c =
