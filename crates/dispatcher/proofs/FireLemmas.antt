@@ -1,5 +1,5 @@
 -- What the execution of a point makes of a state and its index.
-use Rattle.std.proofs.Common.{◌≡◌, ◌≢◌, ℕ, ◌+◌, ◌<◌, List, [], ◌∷◌, length, refl, sym, ap, ◌∙◌, subst, arith, pos, inl, inr, get_or, set, map, All, Option, Some, None}
+use Rattle.std.proofs.Common.{◌≡◌, ◌≢◌, ℕ, ◌<◌, List, [], ◌∷◌, length, refl, sym, ap, ◌∙◌, subst, arith, pos, inl, inr, get_or, set, map, All, Option, Some, None}
 use Rattle.std.proofs.lemmas.Int.{ints}
 use Rattle.std.proofs.lemmas.Bool.{cases_eq, eq-eqb, ne_eqb}
 use Rattle.std.proofs.lemmas.List.{length-map, length-set, get_or-map, get_or-set_same, get_or-set_other, same_lists}
@@ -23,9 +23,10 @@ use Rattle.local_propagate.specs.declared.windows.Windows.{Windows}
 use Rattle.local_propagate.specs.declared.windows.TheConstants.{NEVER}
 use Rattle.local_propagate.specs.Windows.{time_of}
 use Rattle.dispatcher.specs.declared.places.Place.{Place}
-use Rattle.dispatcher.specs.State.{State, IsLawful, IsOpen, MayFire, fired, points, time_in, times_in}
+use Rattle.hs_base.specs.Moments.{MayFire}
+use Rattle.dispatcher.specs.State.{State, IsLawful, IsOpen, fired, points, time_in, times_in, moment}
 use Rattle.dispatcher.specs.Places.{ArePlaces, IsNearLeader, member, place_at}
-use Rattle.dispatcher.specs.Index.{AreSetBy, AreKnown, AreWaits, wait, waited}
+use Rattle.dispatcher.specs.Index.{AreSetBy, AreKnown, AreWaits, waited}
 use Rattle.dispatcher.proofs.KeptLemmas.{function_is, number_is, place_is, time_of_group}
 
 -- a list of times with one more
@@ -74,7 +75,7 @@ waited_in t o (k ∷ ms) until x d ix h m i at_x =
 
 module _ (s : State) (law : IsLawful s) (w : Windows) (places : List Place) (known : List ℕ) (until : List ℤ)
     (by : AreSetBy s.net s.times w) (are : ArePlaces (points s) s.net places) (knows : AreKnown s.net s.times known) (waits : AreWaits w places s.times until)
-    (x : ℕ) (is_open : IsOpen s x) (may : MayFire s x) where
+    (x : ℕ) (is_open : IsOpen s x) (may : MayFire (moment s) x) where
   abbrev at : Times
   at = time_in s
 

@@ -25,7 +25,8 @@ use Rattle.local_propagate.specs.Joined.{leaders_of, leader_at, place_of, after_
 use Rattle.local_propagate.proofs.JoinedLemmas.{stands_at}
 use Rattle.local_propagate.proofs.SettingLemmas.{lookup_at, after_has, has_after}
 use Rattle.dispatcher.specs.declared.places.Place.{Place}
-use Rattle.dispatcher.specs.State.{State, IsLawful, IsOpen, MayFire, Bars, points, time_in}
+use Rattle.hs_base.specs.Moments.{Bars, MayFire}
+use Rattle.dispatcher.specs.State.{State, IsLawful, IsOpen, points, time_in, moment}
 use Rattle.dispatcher.specs.Places.{StandsAt, member}
 use Rattle.dispatcher.specs.Index.{IsWithin}
 use Rattle.dispatcher.specs.Edges.{IsSetAt, IsKnownIn, LeadsTo, LetsFire}
@@ -42,7 +43,7 @@ module _ (s : State) (law : IsLawful s) where
   c = points s
 
   -- a point that is barred may not be executed
-  pub barred_may_not : (x : ℕ) (b : Bound) → x < c → Bars s x b → MayFire s x → ⊥
+  pub barred_may_not : (x : ℕ) (b : Bound) → x < c → Bars (moment s) x b → MayFire (moment s) x → ⊥
   barred_may_not x b ix bars may = bound_bars c s.net law.reduced at n law.reached x ix bars.0 may
 
   module _ (x : ℕ) (is_open : IsOpen s x) (p : Place) (stand : StandsAt s.net x p) where
@@ -56,10 +57,10 @@ module _ (s : State) (law : IsLawful s) where
     stood : (t : ℤ) → IsSetAt s p.group t → law.reached.some x ≡ t +ℤ p.offset
     stood t is_set = set_law c s.net at n law.reduced law.reached (get_or s.net.groups p.group (record { leader = record { 0 = 0 }; members = [] })) (member x p.offset) t ig (stand.stands (record { leader = record { 0 = 0 }; members = [] })) (is_set (record { leader = record { 0 = 0 }; members = [] })) law.reached.some law.reached.fits
 
-    pub set_may : (t : ℤ) → IsSetAt s p.group t → t +ℤ p.offset ≡ n → MayFire s x
+    pub set_may : (t : ℤ) → IsSetAt s p.group t → t +ℤ p.offset ≡ n → MayFire (moment s) x
     set_may t is_set now = record { s = law.reached.some; fits = law.reached.fits; here = stood t is_set ∙ now }
 
-    pub set_bars : (t : ℤ) → IsSetAt s p.group t → (m : Member) → IsKnownIn s p.group t m → (t +ℤ p.offset ≡ n → ⊥) → Bars s x (bound x m.point.0 (m.offset -ℤ p.offset))
+    pub set_bars : (t : ℤ) → IsSetAt s p.group t → (m : Member) → IsKnownIn s p.group t m → (t +ℤ p.offset ≡ n → ⊥) → Bars (moment s) x (bound x m.point.0 (m.offset -ℤ p.offset))
     set_bars t is_set m known other =
         let d : Group = record { leader = record { 0 = 0 }; members = [] } in
         let is = stood t is_set in
@@ -81,7 +82,7 @@ module _ (s : State) (law : IsLawful s) where
 
     -- in a group that isn't set
     module _ (unset : (g : Group) → group_time at (get_or s.net.groups p.group g) ≡ None) where
-      pub leader_bars : (g : Group) → (p.offset ≡ pos 0 → ⊥) → Bars s x (bound x (get_or s.net.groups p.group g).leader.0 (pos 0 -ℤ p.offset))
+      pub leader_bars : (g : Group) → (p.offset ≡ pos 0 → ⊥) → Bars (moment s) x (bound x (get_or s.net.groups p.group g).leader.0 (pos 0 -ℤ p.offset))
       leader_bars g other =
           let h : Group = get_or s.net.groups p.group g in
           let jg : Contains s.net.groups h = Contains-get_or s.net.groups p.group g stand.within in
@@ -110,7 +111,7 @@ module _ (s : State) (law : IsLawful s) where
     next_leader : (g : Group) → (get_or s.net.groups next.group g).leader.0 ≡ leads.edge.to.0
     next_leader g = sym (leader_is c s.net law.reduced next.group g leads.within) ∙ sym leads.to
 
-    pub unset_bars : (g : Group) → group_time at (get_or s.net.groups next.group g) ≡ None → Bars s x (bound x (get_or s.net.groups next.group g).leader.0 next.most)
+    pub unset_bars : (g : Group) → group_time at (get_or s.net.groups next.group g) ≡ None → Bars (moment s) x (bound x (get_or s.net.groups next.group g).leader.0 next.most)
     unset_bars g unset =
         let h : Group = get_or s.net.groups next.group g in
         let ih : Contains s.net.groups h = Contains-get_or s.net.groups next.group g leads.within in
@@ -128,7 +129,7 @@ module _ (s : State) (law : IsLawful s) where
           refl,
         )
 
-    pub late_bars : (t : ℤ) → IsSetAt s next.group t → n <ℤ (t -ℤ next.most) → (m : Member) → IsKnownIn s next.group t m → Bars s x (bound x m.point.0 (next.most +ℤ m.offset))
+    pub late_bars : (t : ℤ) → IsSetAt s next.group t → n <ℤ (t -ℤ next.most) → (m : Member) → IsKnownIn s next.group t m → Bars (moment s) x (bound x m.point.0 (next.most +ℤ m.offset))
     late_bars t is_set late m known =
         let d : Group = record { leader = record { 0 = 0 }; members = [] } in
         let h : Group = get_or s.net.groups next.group d in
@@ -162,7 +163,7 @@ module _ (s : State) (law : IsLawful s) where
 
   -- where all neighbours let it, the point may be executed
   pub all_let : (x : ℕ) (i : ℕ) → StandsAt s.net x (record { group = i; offset = pos 0 }) → ((g : Group) → group_time at (get_or s.net.groups i g) ≡ None)
-      → ((n : Neighbour) → Has (after_of (leaders_of s.net.groups) s.net.edges (leader_at s.net i)) n → LetsFire s n) → MayFire s x
+      → ((n : Neighbour) → Has (after_of (leaders_of s.net.groups) s.net.edges (leader_at s.net i)) n → LetsFire s n) → MayFire (moment s) x
   all_let x i stand unset lets =
       let d : Group = record { leader = record { 0 = 0 }; members = [] } in
       let g : Group = get_or s.net.groups i d in
@@ -207,6 +208,6 @@ pub same_bits : (x y : ℤ) → FitsSigned w64 x → FitsSigned w64 y → of_z w
 same_bits x y fx fy h = sym (to_z-of_z w64 x fx) ∙ ap (to_z w64) h ∙ to_z-of_z w64 y fy
 
 -- an answer decides whether the point may be executed
-pub answer_decides : {T : Type 0} (s : State) → IsLawful s → (x : ℕ) → x < points s → (r : Result T Bound) → MatchResult r (λ _. MayFire s x) (Bars s x) → IsOk r ↔ MayFire s x
+pub answer_decides : {T : Type 0} (s : State) → IsLawful s → (x : ℕ) → x < points s → (r : Result T Bound) → MatchResult r (λ _. MayFire (moment s) x) (Bars (moment s) x) → IsOk r ↔ MayFire (moment s) x
 answer_decides s law x ix (Ok u) h = (λ _. h, λ _. refl)
 answer_decides s law x ix (Err b) h = (λ e. absurd (cc), λ may. absurd (barred_may_not s law x b ix h may))

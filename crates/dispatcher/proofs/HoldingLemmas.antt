@@ -26,7 +26,8 @@ use Rattle.local_propagate.specs.declared.windows.Windows.{Windows}
 use Rattle.local_propagate.proofs.JoinedLemmas.{stands_at}
 use Rattle.local_propagate.proofs.SettingLemmas.{lookup_at}
 use Rattle.dispatcher.specs.declared.places.Place.{Place}
-use Rattle.dispatcher.specs.State.{State, IsLawful, IsOpen, IsInTime, IsLate, IsTiedTo, MayGoOn, MustFire, is_observed, points, time_in}
+use Rattle.hs_base.specs.Moments.{IsInTime, IsLate, IsTied, MayGoOn, MustFire}
+use Rattle.dispatcher.specs.State.{State, IsLawful, IsOpen, is_observed, points, time_in, moment}
 use Rattle.dispatcher.specs.Places.{StandsAt, ArePlaces, member, place_at}
 use Rattle.dispatcher.specs.Index.{AreSetBy, IsWithin}
 use Rattle.dispatcher.specs.Edges.{IsSetAt, IsKnownIn}
@@ -75,11 +76,11 @@ module _ (s : State) (law : IsLawful s) where
       }
 
   -- no tick may be taken where a point is forced
-  pub forced_stops : (x : ℕ) → IsOpen s x → Forced s x → MayGoOn s → ⊥
+  pub forced_stops : (x : ℕ) → IsOpen s x → Forced s x → MayGoOn (moment s) → ⊥
   forced_stops x is_open forced may = omega (arith, ints, forced.each may.s may.fits, may.later x is_open.below is_open.none)
 
   -- an observed point that is held is late after now
-  pub held_late : (x q : ℕ) (h : IsHeldBy s x q) → is_observed s x ≡ true → at x ≡ None → IsLate s (bound q x (n -ℤ h.at))
+  pub held_late : (x q : ℕ) (h : IsHeldBy s x q) → is_observed s x ≡ true → at x ≡ None → IsLate (moment s) (bound q x (n -ℤ h.at))
   held_late x q h watched none = (
     record { from = q; to = x; most = n -ℤ h.at; at_from = h.at; set = h.executed; watched = watched; open_to = none; tight = h.tight; late = omega (arith, ints) },
     refl,
@@ -99,7 +100,7 @@ module _ (s : State) (law : IsLawful s) where
   }
 
   -- where no point is due and no observed one is forced, a tick may be taken
-  pub in_time : ((x : ℕ) → MustFire s x → ⊥) → ((x : ℕ) → is_observed s x ≡ true → IsOpen s x → Forced s x → ⊥) → MayGoOn s
+  pub in_time : ((x : ℕ) → MustFire (moment s) x → ⊥) → ((x : ℕ) → is_observed s x ≡ true → IsOpen s x → Forced s x → ⊥) → MayGoOn (moment s)
   in_time none free = elim (tick_or c s.net law.reduced at n law.reached (is_observed s)) [
     | inl may ↦ may
     | inr r ↦ elim r [
@@ -109,22 +110,22 @@ module _ (s : State) (law : IsLawful s) where
   ]
 
   -- an answer of no bound says that the state is in time
-  pub late_answers : (r : Option Bound) → (MayGoOn s → ⊥) → ((x : ℕ) → MustFire s x → ⊥) → MatchOption r ((x : ℕ) → is_observed s x ≡ true → IsOpen s x → Forced s x → ⊥) (IsLate s) → IsNone r ↔ IsInTime s
+  pub late_answers : (r : Option Bound) → (MayGoOn (moment s) → ⊥) → ((x : ℕ) → MustFire (moment s) x → ⊥) → MatchOption r ((x : ℕ) → is_observed s x ≡ true → IsOpen s x → Forced s x → ⊥) (IsLate (moment s)) → IsNone r ↔ IsInTime (moment s)
   late_answers None stops none free = (λ _. inl (in_time none free), λ _. refl)
   late_answers (Some b) stops none late = (λ e. absurd (cc), λ t. absurd (elim t [ inl may ↦ stops may | inr due ↦ none due.0 due.1 ]))
 
   -- a forced point that is not observed is due where no point is tied to it
-  pub due_from : (x : ℕ) → IsOpen s x → Forced s x → is_observed s x ≡ false → ((y : ℕ) → IsTiedTo s x y → ⊥) → MustFire s x
+  pub due_from : (x : ℕ) → IsOpen s x → Forced s x → is_observed s x ≡ false → ((y : ℕ) → IsTied (moment s) x y → ⊥) → MustFire (moment s) x
   due_from x is_open forced free none = record {
     below = is_open.below;
     none = is_open.none;
     forced = forced;
     free = free;
-    untied = λ y iy watched open_y other one. none y (record { below = iy; watched = watched; none = open_y; other = other; one = one });
+    untied = none;
   }
 
-  pub due_untied : (x : ℕ) → MustFire s x → (y : ℕ) → IsTiedTo s x y → ⊥
-  due_untied x due y tied = due.untied y tied.below tied.watched tied.none tied.other tied.one
+  pub due_untied : (x : ℕ) → MustFire (moment s) x → (y : ℕ) → IsTied (moment s) x y → ⊥
+  due_untied x due = due.untied
 
   -- the number of a leader's group
   pub record LeaderIs (a : ℕ) : Type 0 where

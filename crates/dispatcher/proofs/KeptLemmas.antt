@@ -1,5 +1,5 @@
 -- What a lawful state and its index say of groups, places and windows.
-use Rattle.std.proofs.Common.{◌≡◌, ℕ, ◌+◌, ◌<◌, List, [], length, refl, sym, ap, ◌∙◌, subst, arith, pos, inl, inr, ◌⊎◌, get_or, map, All, Option, Some, None, true, false}
+use Rattle.std.proofs.Common.{◌≡◌, ℕ, ◌<◌, List, [], length, refl, sym, ap, ◌∙◌, subst, arith, pos, inl, inr, ◌⊎◌, get_or, map, All, Option, Some, None, true, false}
 use Rattle.std.proofs.lemmas.Int.{ints}
 use Rattle.std.proofs.lemmas.List.{length-map, get_or-map}
 use Rattle.std.proofs.lemmas.List.Elements.{Contains-get_or}
@@ -25,7 +25,8 @@ use Rattle.local_propagate.specs.Joined.{IsJoined, leaders_of, leader_at, place_
 use Rattle.local_propagate.specs.Windows.{AreWindowsOf, time_of, high_of, set_times}
 use Rattle.local_propagate.proofs.JoinedLemmas.{place_at as number_at}
 use Rattle.dispatcher.specs.declared.places.Place.{Place}
-use Rattle.dispatcher.specs.State.{State, IsLawful, IsOpen, MayGoOn, points, ticked, time_in}
+use Rattle.hs_base.specs.Moments.{MayGoOn}
+use Rattle.dispatcher.specs.State.{State, IsLawful, IsOpen, points, ticked, time_in, moment}
 use Rattle.dispatcher.specs.Places.{ArePlaces, member, place_at}
 use Rattle.dispatcher.specs.Index.{AreSetBy, AreWaits}
 
@@ -139,7 +140,7 @@ module _ (s : State) (law : IsLawful s) (w : Windows) (places : List Place) (unt
     pub u_bound : All (λ x. u ≤ℤ x) until
     pub u_among : Contains until u
 
-  pub later_goes_on : (h u : ℤ) → Leasts h u → n <ℤ h → n <ℤ u → MayGoOn s
+  pub later_goes_on : (h u : ℤ) → Leasts h u → n <ℤ h → n <ℤ u → MayGoOn (moment s)
   later_goes_on h u l nh nu = (windows_free c s.net law.reduced at n law.reached (λ a. high_of w (place_of (leaders_of s.net.groups) a)) are_high).1 (record {
     windows = λ g ig none.
         let unset : time_of w ig.0 ≡ None = time_of_group s.net s.times at w by.are by.by ig.0 g ig.1 ∙ ap (group_time at) ig.2 ∙ none in
@@ -152,7 +153,7 @@ module _ (s : State) (law : IsLawful s) (w : Windows) (places : List Place) (unt
         omega (arith, ints, nu, wait_is, p.offset, l.u_bound x (pos 0) (omega (arith, p.below, waits.points)));
   })
 
-  pub goes_on_later : (h u : ℤ) → Leasts h u → MayGoOn s → (n <ℤ h) × (n <ℤ u)
+  pub goes_on_later : (h u : ℤ) → Leasts h u → MayGoOn (moment s) → (n <ℤ h) × (n <ℤ u)
   goes_on_later h u l may =
       let later = (windows_free c s.net law.reduced at n law.reached (λ a. high_of w (place_of (leaders_of s.net.groups) a)) are_high).0 may in (
         elim l.h_among [
@@ -190,12 +191,12 @@ module _ (s : State) (law : IsLawful s) (w : Windows) (places : List Place) (unt
       )
 
 -- a tick that may be taken stays within LAST, where a point is open
-pub tick_within : (s : State) → IsLawful s → MayGoOn s → (x : ℕ) → IsOpen s x → (s.tick +ℤ pos 1) ≤ℤ LAST
+pub tick_within : (s : State) → IsLawful s → MayGoOn (moment s) → (x : ℕ) → IsOpen s x → (s.tick +ℤ pos 1) ≤ℤ LAST
 tick_within s law may x is_open =
     let f = may.fits.meets in
     omega (arith, ints, may.later x is_open.below is_open.none, (law.reduced.tight.before_last x is_open.below).holds may.s f, f.origin)
 
-pub ticked_lawful : (s : State) → IsLawful s → MayGoOn s → (x : ℕ) → IsOpen s x → IsLawful (ticked s)
+pub ticked_lawful : (s : State) → IsLawful s → MayGoOn (moment s) → (x : ℕ) → IsOpen s x → IsLawful (ticked s)
 ticked_lawful s law may x is_open = record {
   reduced = law.reduced;
   observed = law.observed;

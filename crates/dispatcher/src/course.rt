@@ -7,7 +7,8 @@ ghost use Rattle.hs_base.specs.declared.net.Group.{Group};
 ghost use Rattle.hs_base.specs.Dispatch.{IsReached, group_time};
 ghost use Rattle.dispatcher.specs.Places.{StandsAt};
 ghost use Rattle.dispatcher.specs.Edges.{IsKnownIn, IsSetAt, LeadsTo, LetsFire};
-ghost use Rattle.dispatcher.specs.State.{IsLawful, IsOpen, IsLeastTied, IsTiedTo, MayFire, MayGoOn, MayWait, MustFire, IsLate, Bars, at_time, begun, fired, is_observed, points, ticked, time_in};
+ghost use Rattle.hs_base.specs.Moments.{Bars, IsLate, IsLeastTied, IsTied, MayFire, MayGoOn, MustFire};
+ghost use Rattle.dispatcher.specs.State.{IsLawful, IsOpen, begun, fired, is_observed, points, ticked, time_in, moment};
 ghost use Rattle.dispatcher.specs.Marks.{AreMarksOf, Forced, IsHeldBy};
 
 use crate::groups::set_groups;
@@ -122,8 +123,8 @@ impl Course {
     /// it, with its tight weight, that this would break.
     pub fn may_fire(&self, p: PointId) -> Result<(), Bound>
         requires { IsOpen self.now p.0 }
-        ensures may { IsOk result ↔ MayFire self.now p.0 }
-        ensures barred { IfErr result (Bars self.now p.0) }
+        ensures may { IsOk result ↔ MayFire (moment self.now) p.0 }
+        ensures barred { IfErr result (Bars (moment self.now) p.0) }
     {
         let place = self.places[p.0 as usize];
         match self.windows.time(place.group) {
@@ -135,7 +136,7 @@ impl Course {
     /// The least open observed point, other than `p`, that has `p`'s time in every schedule.
     pub fn tied(&self, p: PointId) -> Option<PointId>
         requires { IsOpen self.now p.0 }
-        ensures { MatchOption result ((y : ℕ) → IsTiedTo self.now p.0 y → ⊥) (λ q. IsLeastTied self.now p.0 q.0) }
+        ensures { MatchOption result ((y : ℕ) → IsTied (moment self.now) p.0 y → ⊥) (λ q. IsLeastTied (moment self.now) p.0 q.0) }
     {
         for y in 0..self.times.len() {
             if self.ties(p.0 as usize, y) {
@@ -148,7 +149,7 @@ impl Course {
     /// Notes that a point is executed now.
     pub fn set(&mut self, p: PointId)
         requires open { IsOpen self.old p.0 }
-        requires may { MayFire self.old p.0 }
+        requires may { MayFire (moment self.old) p.0 }
         ensures { self.new ≡ fired self.old p.0 }
     {
         let place = self.places[p.0 as usize];
@@ -166,15 +167,15 @@ impl Course {
     }
 
     /// The time up to which ticks may be taken, where nothing else happens.
-    pub fn limit(&self) -> i64
-        ensures { MayGoOn self.now ↔ (self.now.tick <ℤ result) }
+    fn limit(&self) -> i64
+        ensures { MayGoOn (moment self.now) ↔ (self.now.tick <ℤ result) }
     {
         self.windows.least_high(&self.net).min(self.until.least())
     }
 
     /// Whether the time may go on: some schedule that fits gives every open point a later time.
     pub fn may_tick(&self) -> bool
-        ensures may { IsTrue result ↔ MayGoOn self.now }
+        ensures may { IsTrue result ↔ MayGoOn (moment self.now) }
         ensures state { IsLawful self.now }
     {
         self.tick < self.limit()
@@ -183,21 +184,10 @@ impl Course {
     /// Takes a tick.
     pub fn advance(&mut self)
         requires open { (x : ℕ) × IsOpen self.old x }
-        requires may { MayGoOn self.old }
+        requires may { MayGoOn (moment self.old) }
         ensures { self.new ≡ ticked self.old }
     {
         self.tick += 1;
-    }
-
-    /// Lets the time pass up to a tick, where some schedule that fits gives every open point that tick
-    /// or later.
-    pub fn wait_until(&mut self, to: i64)
-        requires later { self.old.tick ≤ℤ to }
-        requires last { to ≤ℤ LAST }
-        requires may { MayWait self.old to }
-        ensures { self.new ≡ at_time self.old to }
-    {
-        self.tick = to;
     }
 
     /// Marks the leaders that are forced now.
@@ -217,7 +207,7 @@ impl Course {
     /// A point that must be executed now.
     pub fn must_fire(&self, marks: &[Option<PointId>]) -> Option<PointId>
         requires { AreMarksOf self.now marks.now }
-        ensures { MatchOption result ((x : ℕ) → MustFire self.now x → ⊥) (λ q. MustFire self.now q.0) }
+        ensures { MatchOption result ((x : ℕ) → MustFire (moment self.now) x → ⊥) (λ q. MustFire (moment self.now) q.0) }
     {
         for x in 0..self.times.len() {
             if self.is_due(x, marks) {
@@ -230,7 +220,7 @@ impl Course {
     /// A tight bound to an open observed point that is forced now.
     pub fn late(&self, marks: &[Option<PointId>]) -> Option<Bound>
         requires { AreMarksOf self.now marks.now }
-        ensures { MatchOption result ((x : ℕ) → is_observed self.now x ≡ true → IsOpen self.now x → Forced self.now x → ⊥) (IsLate self.now) }
+        ensures { MatchOption result ((x : ℕ) → is_observed self.now x ≡ true → IsOpen self.now x → Forced self.now x → ⊥) (IsLate (moment self.now)) }
     {
         for x in 0..self.times.len() {
             if let Some(bound) = self.late_at(x, marks) {
@@ -244,7 +234,7 @@ impl Course {
     fn is_due(&self, x: usize, marks: &[Option<PointId>]) -> bool
         requires x { x < points self.now }
         requires marks { AreMarksOf self.now marks.now }
-        ensures { IsTrue result ↔ MustFire self.now x }
+        ensures { IsTrue result ↔ MustFire (moment self.now) x }
     {
         if self.observed[x] || self.times[x].is_some() {
             return false;
@@ -259,7 +249,7 @@ impl Course {
     fn late_at(&self, x: usize, marks: &[Option<PointId>]) -> Option<Bound>
         requires x { x < points self.now }
         requires marks { AreMarksOf self.now marks.now }
-        ensures { MatchOption result (is_observed self.now x ≡ true → IsOpen self.now x → Forced self.now x → ⊥) (IsLate self.now) }
+        ensures { MatchOption result (is_observed self.now x ≡ true → IsOpen self.now x → Forced self.now x → ⊥) (IsLate (moment self.now)) }
     {
         if !self.observed[x] || self.times[x].is_some() {
             return None;
@@ -326,7 +316,7 @@ impl Course {
     fn ties(&self, x: usize, y: usize) -> bool
         requires x { x < points self.now }
         requires y { y < points self.now }
-        ensures { IsTrue result ↔ IsTiedTo self.now x y }
+        ensures { IsTrue result ↔ IsTied (moment self.now) x y }
     {
         if x == y || !self.observed[y] || self.times[y].is_some() {
             return false;
@@ -363,7 +353,7 @@ impl Course {
         requires open { IsOpen self.now p.0 }
         requires place { StandsAt self.now.net p.0 place }
         requires set { IsSetAt self.now place.group at }
-        ensures { MatchResult result (λ _. MayFire self.now p.0) (Bars self.now p.0) }
+        ensures { MatchResult result (λ _. MayFire (moment self.now) p.0) (Bars (moment self.now) p.0) }
     {
         if self.tick == at + place.offset {
             return Ok(());
@@ -381,7 +371,7 @@ impl Course {
         requires open { IsOpen self.now p.0 }
         requires place { StandsAt self.now.net p.0 place }
         requires unset { (g : Group) → group_time (time_in self.now) (slice_index_or self.now.net.groups place.group g) ≡ None }
-        ensures { MatchResult result (λ _. MayFire self.now p.0) (Bars self.now p.0) }
+        ensures { MatchResult result (λ _. MayFire (moment self.now) p.0) (Bars (moment self.now) p.0) }
     {
         if place.offset != 0 {
             return Err(Bound {
@@ -404,7 +394,7 @@ impl Course {
         requires open { IsOpen self.now p.0 }
         requires place { StandsAt self.now.net p.0 (record { group = group; offset = pos 0 }) }
         requires next { LeadsTo self.now.net group next }
-        ensures { MatchOption result (LetsFire self.now next) (Bars self.now p.0) }
+        ensures { MatchOption result (LetsFire self.now next) (Bars (moment self.now) p.0) }
     {
         if next.most >= 0 {
             return None;

@@ -1,10 +1,11 @@
-ghost use Rattle.std.specs.Prelude.{◌≡◌, ◌↔◌, ◌<◌, ◌≤◌, ◌^◌, ◌≤ℤ◌, ◌<ℤ◌, ℕ, length, IsTrue, IsOk, IfOk, IfErr, IfSome, IsNone, MatchOption};
+ghost use Rattle.std.specs.Prelude.{◌≡◌, ◌↔◌, ◌<◌, ◌≤◌, ◌^◌, ◌≤ℤ◌, ℕ, length, IsTrue, IsOk, IfOk, IfErr, IfSome, IsNone, MatchOption};
 ghost use Rattle.hs_base.specs.declared.limits.TheConstants.{LAST};
 ghost use Rattle.hs_base.specs.Network.{spread};
 ghost use Rattle.hs_base.specs.Reduced.{IsReducedOf};
 ghost use Rattle.hs_base.specs.Fits.{EachOnce, time_at};
 ghost use Rattle.hs_base.specs.Dispatch.{IsReached};
-ghost use Rattle.dispatcher.specs.State.{IsLawful, IsOpen, IsLeastTied, IsTiedTo, MayFire, MayGoOn, MayWait, MustFire, IsInTime, IsLate, Bars, at_time, begun, fired, is_observed, points, ticked, time_in};
+ghost use Rattle.hs_base.specs.Moments.{Bars, IsInTime, IsLate, IsLeastTied, IsTied, MayFire, MayGoOn, MustFire};
+ghost use Rattle.dispatcher.specs.State.{IsLawful, IsOpen, begun, fired, is_observed, points, ticked, time_in, moment};
 
 use crate::course::Course;
 use hs_base::{Bound, List, Memory, Net, PointId, Time};
@@ -88,7 +89,7 @@ impl Dispatch {
     /// The least open observed point, other than `p`, that has `p`'s time in every schedule.
     pub fn tied(&self, p: PointId) -> Option<PointId>
         requires { IsOpen self.now p.0 }
-        ensures { MatchOption result ((y : ℕ) → IsTiedTo self.now p.0 y → ⊥) (λ q. IsLeastTied self.now p.0 q.0) }
+        ensures { MatchOption result ((y : ℕ) → IsTied (moment self.now) p.0 y → ⊥) (λ q. IsLeastTied (moment self.now) p.0 q.0) }
     {
         self.course.tied(p)
     }
@@ -97,8 +98,8 @@ impl Dispatch {
     /// it, with its tight weight, that this would break.
     pub fn may_fire(&mut self, p: PointId) -> Result<(), Bound>
         requires { IsOpen self.old p.0 }
-        ensures may { IsOk result ↔ MayFire self.old p.0 }
-        ensures barred { IfErr result (Bars self.old p.0) }
+        ensures may { IsOk result ↔ MayFire (moment self.old) p.0 }
+        ensures barred { IfErr result (Bars (moment self.old) p.0) }
         ensures same { self.new ≡ self.old }
     {
         self.course.may_fire(p)
@@ -107,22 +108,15 @@ impl Dispatch {
     /// Notes that a point is executed now.
     pub fn set(&mut self, p: PointId)
         requires open { IsOpen self.old p.0 }
-        requires may { MayFire self.old p.0 }
+        requires may { MayFire (moment self.old) p.0 }
         ensures { self.new ≡ fired self.old p.0 }
     {
         self.course.set(p);
     }
 
-    /// The time up to which ticks may be taken, where nothing else happens.
-    pub fn limit(&self) -> i64
-        ensures { MayGoOn self.now ↔ (self.now.tick <ℤ result) }
-    {
-        self.course.limit()
-    }
-
     /// Whether the time may go on: some schedule that fits gives every open point a later time.
     pub fn may_tick(&mut self) -> bool
-        ensures may { IsTrue result ↔ MayGoOn self.old }
+        ensures may { IsTrue result ↔ MayGoOn (moment self.old) }
         ensures same { self.new ≡ self.old }
     {
         self.course.may_tick()
@@ -131,27 +125,16 @@ impl Dispatch {
     /// Takes a tick.
     pub fn advance(&mut self)
         requires open { (x : ℕ) × IsOpen self.old x }
-        requires may { MayGoOn self.old }
+        requires may { MayGoOn (moment self.old) }
         ensures { self.new ≡ ticked self.old }
     {
         self.course.advance();
     }
 
-    /// Lets the time pass up to a tick, where some schedule that fits gives every open point that tick
-    /// or later.
-    pub fn wait_until(&mut self, to: i64)
-        requires later { self.old.tick ≤ℤ to }
-        requires last { to ≤ℤ LAST }
-        requires may { MayWait self.old to }
-        ensures { self.new ≡ at_time self.old to }
-    {
-        self.course.wait_until(to);
-    }
-
     /// A point that must be executed now: it is forced, not observed, and not tied to an open
     /// observed point.
     pub fn must_fire(&mut self) -> Option<PointId>
-        ensures due { MatchOption result ((x : ℕ) → MustFire self.old x → ⊥) (λ q. MustFire self.old q.0) }
+        ensures due { MatchOption result ((x : ℕ) → MustFire (moment self.old) x → ⊥) (λ q. MustFire (moment self.old) q.0) }
         ensures same { self.new ≡ self.old }
     {
         if self.course.may_tick() {
@@ -164,8 +147,8 @@ impl Dispatch {
     /// Where no tick may be taken and no point must be executed: a tight bound to an open observed
     /// point, which a tick would break.
     pub fn late(&mut self) -> Option<Bound>
-        ensures late { IfSome result (IsLate self.old) }
-        ensures none { IsNone result ↔ IsInTime self.old }
+        ensures late { IfSome result (IsLate (moment self.old)) }
+        ensures none { IsNone result ↔ IsInTime (moment self.old) }
         ensures same { self.new ≡ self.old }
     {
         if self.course.may_tick() {

@@ -18,7 +18,7 @@ use Rattle.hs_base.specs.Bounds.{bounds_of}
 use Rattle.hs_base.specs.Reduced.{IsReducedOf}
 use Rattle.hs_base.specs.Checked.{Checked}
 use Rattle.hs_base.specs.Fits.{Times, Fits, time_at}
-use Rattle.hs_machine.specs.State.{now_of, plan_of, executed, tick_at}
+use Rattle.hs_machine.specs.State.{now_of, plan_of, executed, tick_at, moment_of}
 use Rattle.hs_machine.specs.Machine.{handover, done, Replies, IsLeftBy, Turn, base_of, is_over}
 use Rattle.hs_machine.specs.Run.{MayAdd}
 use Rattle.run_laws.proofs.StateLemmas.{plan_handed, times_kept, now_of-push}
@@ -27,7 +27,7 @@ use Rattle.plan_check.specs.Planned.{Planned}
 use Rattle.exec_laws.specs.Follows.{Follows}
 use Rattle.exec_laws.proofs.StepLemmas.{replies_waiting, turn_added, may_add}
 use Rattle.exec_laws.proofs.EndingLemmas.{last_horizon}
-use Rattle.horizon_handover.specs.Offers.{IsDispatchOf}
+use Rattle.horizon_handover.specs.Offers.{beginning}
 use Rattle.horizon_handover.proofs.StartLemmas.{start_fits}
 use Rattle.exec_core.specs.Next.{MayTake}
 use Rattle.exec_core.specs.Room.{HasRoom}
@@ -37,7 +37,7 @@ use Rattle.exec_core.specs.declared.exec.Exec.TheInside.{Inside}
 use Rattle.exec_core.proofs.KeptLemmas.{grounded, grown, Grown, still_sound, phase_if_grounded, phase_if_failed}
 use Rattle.exec_core.proofs.LawfulLemmas.{seen}
 
-module _ (d : Inside) (k : IsKept d) (none : d.live ≡ None) (p : Planned) (may : MayTake (seen d) p) (ext : Extension) (net : Net) (s : State) (by : ℕ) (checked : Checked p.mission p.plan.extensions) (disp : IsDispatchOf p (executed []) (pos 0) s) (last : p.plan.extensions ≡ base_of p.plan.extensions ++ ext ∷ []) (net_is : net ≡ s.net) where
+module _ (d : Inside) (k : IsKept d) (none : d.live ≡ None) (p : Planned) (may : MayTake (seen d) p) (ext : Extension) (net : Net) (s : State) (by : ℕ) (checked : Checked p.mission p.plan.extensions) (disp : Follows (beginning p) s) (last : p.plan.extensions ≡ base_of p.plan.extensions ++ ext ∷ []) (net_is : net ≡ s.net) where
   abbrev m : Mission
   m = d.mission
 
@@ -54,7 +54,7 @@ module _ (d : Inside) (k : IsKept d) (none : d.live ≡ None) (p : Planned) (may
   q = record { mission = m; plan = record { extensions = es } }
 
   extensions_are : p.plan.extensions ≡ es
-  extensions_are = last ∙ ap (λ (l : List Extension). l ++ ext ∷ []) may.next.base
+  extensions_are = last ∙ ap (λ (l : List Extension). l ++ ext ∷ []) may.next.1
 
   same : p ≡ q
   same = ap (λ (x : Mission). record { mission = x; plan = p.plan }) may.mission ∙ ap (λ (l : List Extension). record { mission = m; plan = record { extensions = l } }) extensions_are
@@ -62,10 +62,8 @@ module _ (d : Inside) (k : IsKept d) (none : d.live ≡ None) (p : Planned) (may
   checked_there : Checked m es
   checked_there = subst (λ (x : Planned). Checked x.mission x.plan.extensions) same checked
 
-  disp_there : IsDispatchOf q (executed h) (tick_at h) s
-  disp_there =
-      let g = grounded d k none in
-      subst (λ (n : ℕ). IsDispatchOf q (executed h) (pos n) s) (sym g.now_is) (subst (λ (t : Times). IsDispatchOf q t (pos 0) s) (sym g.times) (subst (λ (x : Planned). IsDispatchOf x (executed []) (pos 0) s) same disp))
+  disp_there : Follows (beginning q) s
+  disp_there = subst (λ (x : Planned). Follows (beginning x) s) same disp
 
   fits_there : Fits (count es) (bounds_of m es) (executed h) (tick_at h) checked_there.schedule
   fits_there =
@@ -87,7 +85,7 @@ module _ (d : Inside) (k : IsKept d) (none : d.live ≡ None) (p : Planned) (may
       by_case true is = absurd (let c : is_over Failed ≡ false = subst (λ (x : Phase). is_over x ≡ false) (phase_if_failed d k is) may.going in cc)
 
   lawful : Replies m h (handover m es) done
-  lawful = replies_waiting m h (handover m es) done (phase_if_grounded d k sound none) refl (refl, (some, ap base_of (sym extensions_are) ∙ may.next.base), (checked_there.schedule, fits_there))
+  lawful = replies_waiting m h (handover m es) done (phase_if_grounded d k sound none) refl (refl, (some, ap base_of (sym extensions_are) ∙ may.next.1), (checked_there.schedule, fits_there))
 
   left : IsLeftBy m (Handover ext net) (handover m es) done
   left = (plan_of h, refl, refl, subst (IsReducedOf (count es) (bounds_of m es)) (sym net_is) disp_there.reduced)
@@ -99,13 +97,13 @@ module _ (d : Inside) (k : IsKept d) (none : d.live ≡ None) (p : Planned) (may
   pub handed_turn : Turn m h by (handover p.mission p.plan.extensions) done (h ++ e ∷ [])
   handed_turn = subst (λ (x : Planned). Turn m h by (handover x.mission x.plan.extensions) done (h ++ e ∷ [])) (sym same) (turn_added m h by (handover m es) done (Handover ext net) lawful left)
 
-  follows : Follows m (h ++ e ∷ []) s
+  follows : Follows (moment_of m (h ++ e ∷ [])) s
   follows = record {
     reduced = subst (λ (l : List Extension). IsReducedOf (count l) (bounds_of m l) s.net) (sym plan_now) disp_there.reduced;
     points = disp_there.points ∙ ap count (sym plan_now);
-    times = fun_ext (λ x. disp_there.times x ∙ ap (λ ts. time_at ts x) (sym (times_kept h e refl)));
-    observed = fun_ext (λ x. disp_there.observed x ∙ ap (λ (l : List Extension). ends_by_device m l x) (sym plan_now));
-    tick = disp_there.tick ∙ ap pos (sym (now_of-push h e ∙ add-zero (now_of h)));
+    times = disp_there.times ∙ sym (ap time_at (times_kept h e refl) ∙ (grounded d k none).times);
+    observed = disp_there.observed ∙ ap (λ (l : List Extension). ends_by_device m l) (sym plan_now);
+    tick = disp_there.tick ∙ ap pos (sym (now_of-push h e ∙ add-zero (now_of h) ∙ (grounded d k none).now_is));
   }
 
   module _ (f : Flight) (plan_is : f.plan ≡ p) (dispatch_is : f.dispatch ≡ s) (mark_is : f.mark.0 ≡ hor p.plan.extensions (length p.plan.extensions)) where
@@ -114,7 +112,7 @@ module _ (d : Inside) (k : IsKept d) (none : d.live ≡ None) (p : Planned) (may
       mission = ap (λ (x : Planned). x.mission) (plan_is ∙ same);
       plan = ap (λ (x : Planned). x.plan.extensions) (plan_is ∙ same) ∙ sym plan_now;
       some = λ (x : plan_of (h ++ e ∷ []) ≡ []). some (sym plan_now ∙ x);
-      follows = subst (Follows m (h ++ e ∷ [])) (sym dispatch_is) follows;
+      follows = subst (Follows (moment_of m (h ++ e ∷ []))) (sym dispatch_is) follows;
       mark = mark_is ∙ ap (λ (l : List Extension). hor l (length l)) (extensions_are ∙ sym plan_now);
     }
 

@@ -13,7 +13,7 @@ use Rattle.hs_machine.specs.declared.history.Phase.{Phase}
 use Rattle.hs_machine.specs.declared.history.Phase.TheVariants.{Waiting, Running, Failed, Ended}
 use Rattle.hs_base.specs.Points.{hor}
 use Rattle.hs_base.specs.Fits.{time_at}
-use Rattle.hs_machine.specs.State.{now_of, plan_of, executed, executes, hands_over, is_failure, has_failed, has_ended, phase_of}
+use Rattle.hs_machine.specs.State.{now_of, plan_of, executed, moment_of, executes, hands_over, is_failure, has_failed, has_ended, phase_of}
 use Rattle.hs_machine.specs.Machine.{tick, is_over}
 use Rattle.hs_machine.specs.Run.{Run, MayAdd}
 use Rattle.run_laws.proofs.StateLemmas.{plan_kept, times_kept, now_of-push}
@@ -57,7 +57,7 @@ pub no_ground : (d : Inside) → IsKept d → d.live ≡ None → phase_of d.his
 no_ground d k is run = (running d.history.items run).some (grounded d k is).plan
 
 -- the flight of a longer history with the same plan
-flying_on : (m : Mission) (h : List Entry) (f g : Flight) (e : Entry) → g.plan ≡ f.plan → g.mark ≡ f.mark → hands_over e.deed ≡ None → IsFlying m h f → Follows m (h ++ e ∷ []) g.dispatch → IsFlying m (h ++ e ∷ []) g
+flying_on : (m : Mission) (h : List Entry) (f g : Flight) (e : Entry) → g.plan ≡ f.plan → g.mark ≡ f.mark → hands_over e.deed ≡ None → IsFlying m h f → Follows (moment_of m (h ++ e ∷ [])) g.dispatch → IsFlying m (h ++ e ∷ []) g
 flying_on m h f g e same_plan same_mark none k follows =
     let p = plan_kept h e none in
     record {
@@ -103,7 +103,7 @@ module _ (d d2 : Inside) (k : IsKept d) (f g : Flight) (is : d.live ≡ Some f) 
       let h = d.history.items in
       let e : Entry = record { by = by; deed = Tick } in
       let fl = flying d k f is in
-      let follows : Follows d.mission (h ++ e ∷ []) g.dispatch = subst (Follows d.mission (h ++ e ∷ [])) (sym moved.dispatch) (follows_tick d.mission h f.dispatch fl.follows e refl refl refl) in
+      let follows : Follows (moment_of d.mission (h ++ e ∷ [])) g.dispatch = subst (Follows (moment_of d.mission (h ++ e ∷ []))) (sym moved.dispatch) (follows_tick d.mission h f.dispatch fl.follows e refl refl refl) in
       grown d d2 e k grow adds (still_sound h e d2.failed (same ∙ k.failed) refl)
       (subst (IsAt d.mission (h ++ e ∷ [])) (sym now) (flying_on d.mission h f g e moved.plan moved.mark refl fl follows))
       (λ sound.
@@ -119,7 +119,7 @@ module _ (d d2 : Inside) (k : IsKept d) (f g : Flight) (is : d.live ≡ Some f) 
       let fl = flying d k f is in
       let below : x.0 < length f.dispatch.times = omega (arith, may.below, fl.follows.points) in
       let free : time_in f.dispatch x.0 ≡ None = ap (λ (t : ℕ → Option ℤ). t x.0) fl.follows.times ∙ may.none in
-      let follows : Follows d.mission (h ++ e ∷ []) g.dispatch = subst (Follows d.mission (h ++ e ∷ [])) (sym moved.dispatch) (follows_point d.mission h f.dispatch fl.follows e x may.no_plan ex may.no_tick below free) in
+      let follows : Follows (moment_of d.mission (h ++ e ∷ [])) g.dispatch = subst (Follows (moment_of d.mission (h ++ e ∷ []))) (sym moved.dispatch) (follows_point d.mission h f.dispatch fl.follows e x may.no_plan ex may.no_tick below free) in
       grown d d2 e k grow adds (still_sound h e d2.failed (same ∙ k.failed) may.sound)
       (subst (IsAt d.mission (h ++ e ∷ [])) (sym now) (flying_on d.mission h f g e moved.plan moved.mark may.no_plan fl follows))
       (λ sound.

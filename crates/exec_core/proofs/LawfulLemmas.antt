@@ -8,13 +8,15 @@ use Rattle.hs_machine.specs.declared.history.Deed.{Deed}
 use Rattle.hs_machine.specs.declared.history.Deed.TheVariants.{Tick}
 use Rattle.hs_machine.specs.declared.history.Entry.{Entry}
 use Rattle.hs_machine.specs.declared.history.Phase.TheVariants.{Running}
-use Rattle.hs_machine.specs.State.{executed, watched, executes, is_failure, phase_of}
-use Rattle.hs_machine.specs.Machine.{Event, Reply, Replies, EventReply, ReportReply, RefusedIf, IsLeftBy, Turn, tick, fire, report, done, failed, over, no_net, no_point, not_observed, already, is_over}
+use Rattle.hs_base.specs.Moments.{MayFire, MayGoOn}
+use Rattle.hs_machine.specs.State.{executed, watched, moment_of, executes, is_failure, phase_of}
+use Rattle.hs_machine.specs.Machine.{Event, Reply, Replies, EventReply, TickReply, FireReply, ReportReply, ToldReply, RefusedIf, IsLeftBy, Turn, tick, fire, report, done, failed, over, no_net, no_point, not_observed, already, is_over}
 use Rattle.hs_machine.specs.Run.{MayAdd}
-use Rattle.dispatcher.specs.State.{IsOpen, MayFire, MayGoOn, time_in}
+use Rattle.dispatcher.specs.State.{IsOpen, time_in, moment}
 use Rattle.run_laws.proofs.RunLemmas.{event_reply, otherwise}
-use Rattle.exec_laws.specs.Decisions.{DecidesTick, DecidesFire, DecidesReport}
-use Rattle.exec_laws.proofs.FollowLemmas.{tick_reply, fire_reply, report_reply, may_go_on_back, may_fire_back}
+use Rattle.hs_base.specs.Moments.{AreAlike}
+use Rattle.exec_laws.proofs.FollowLemmas.{alike}
+use Rattle.exec_laws.proofs.SameLemmas.{turned, tick_reply, fire_reply, report_reply, may_go_on, may_fire}
 use Rattle.exec_laws.proofs.StepLemmas.{running, replies_running, may_add, turn_added}
 use Rattle.exec_laws.proofs.HorizonLemmas.{none_of}
 use Rattle.exec_laws.proofs.ReplyLemmas.{MayExecute, MayFail, may_execute, may_fail, done_running}
@@ -37,15 +39,19 @@ module _ (d : Inside) (k : IsKept d) where
   not_running v is none run = no_ground d k none (running_there v is run)
 
   module _ (f : Flight) (at : d.live ≡ Some f) where
+    -- the flight's moment is like that of the history
+    pub like : AreAlike (moment f.dispatch) (moment_of d.mission d.history.items)
+    like = alike (moment_of d.mission d.history.items) f.dispatch (flying d k f at).follows
+
     -- the replies to the events that ask for a plan
-    pub tick_lawful : (v : Recorded) (r : Reply) → seen d ≡ v → phase_of v.history ≡ Running → DecidesTick f.dispatch r → Replies v.mission v.history tick r
-    tick_lawful v r is run dec = subst (λ (x : Recorded). Replies x.mission x.history tick r) is (replies_running d.mission d.history.items tick r (running_there v is run) (tick_reply d.mission d.history.items f.dispatch (flying d k f at).follows r dec))
+    pub tick_lawful : (v : Recorded) (r : Reply) → seen d ≡ v → phase_of v.history ≡ Running → TickReply (moment f.dispatch) r → Replies v.mission v.history tick r
+    tick_lawful v r is run dec = subst (λ (x : Recorded). Replies x.mission x.history tick r) is (replies_running d.mission d.history.items tick r (running_there v is run) (tick_reply (moment f.dispatch) (moment_of d.mission d.history.items) like r dec))
 
-    pub fire_lawful : (v : Recorded) (x : ℕ) (r : Reply) → seen d ≡ v → phase_of v.history ≡ Running → DecidesFire f.dispatch x r → Replies v.mission v.history (fire x) r
-    fire_lawful v x r is run dec = subst (λ (y : Recorded). Replies y.mission y.history (fire x) r) is (replies_running d.mission d.history.items (fire x) r (running_there v is run) (fire_reply d.mission d.history.items f.dispatch (flying d k f at).follows x r dec))
+    pub fire_lawful : (v : Recorded) (x : ℕ) (r : Reply) → seen d ≡ v → phase_of v.history ≡ Running → FireReply (moment f.dispatch) x r → Replies v.mission v.history (fire x) r
+    fire_lawful v x r is run dec = subst (λ (y : Recorded). Replies y.mission y.history (fire x) r) is (replies_running d.mission d.history.items (fire x) r (running_there v is run) (fire_reply (moment f.dispatch) (moment_of d.mission d.history.items) like x r dec))
 
-    pub report_lawful : (v : Recorded) (x : ℕ) (r : Reply) → seen d ≡ v → phase_of v.history ≡ Running → DecidesReport f.dispatch x r → Replies v.mission v.history (report x) r
-    report_lawful v x r is run dec = subst (λ (y : Recorded). Replies y.mission y.history (report x) r) is (replies_running d.mission d.history.items (report x) r (running_there v is run) (report_reply d.mission d.history.items f.dispatch (flying d k f at).follows x r dec))
+    pub report_lawful : (v : Recorded) (x : ℕ) (r : Reply) → seen d ≡ v → phase_of v.history ≡ Running → ReportReply (moment f.dispatch) x r → Replies v.mission v.history (report x) r
+    report_lawful v x r is run dec = subst (λ (y : Recorded). Replies y.mission y.history (report x) r) is (replies_running d.mission d.history.items (report x) r (running_there v is run) (report_reply (moment f.dispatch) (moment_of d.mission d.history.items) like x r dec))
 
   -- a tick that is Done
   module _ (v : Recorded) (is : seen d ≡ v) (lawful : Replies v.mission v.history tick done) where
@@ -66,8 +72,8 @@ module _ (d : Inside) (k : IsKept d) where
         let fl = flying d k f at in
         record { below = mark_in d k f at; none = none_of (time_in f.dispatch f.mark.0) (ap (λ (t : ℕ → Option ℤ). is_some (t f.mark.0)) fl.follows.times ∙ ap (λ x. is_some (executed d.history.items x)) fl.mark ∙ (running d.history.items tick_runs).open_mark) }
 
-    pub tick_goes : (f : Flight) → d.live ≡ Some f → MayGoOn f.dispatch
-    tick_goes f at = may_go_on_back d.mission d.history.items f.dispatch (flying d k f at).follows (event_reply d.mission d.history.items tick tick_here)
+    pub tick_goes : (f : Flight) → d.live ≡ Some f → MayGoOn (moment f.dispatch)
+    tick_goes f at = may_go_on (moment_of d.mission d.history.items) (moment f.dispatch) (turned (moment f.dispatch) (moment_of d.mission d.history.items) (like f at)) (event_reply d.mission d.history.items tick tick_here)
 
     pub tick_flies : d.live ≡ None → ⊥
     tick_flies none = no_ground d k none tick_runs
@@ -96,8 +102,8 @@ module _ (d : Inside) (k : IsKept d) where
           let fl = flying d k f at in
           record { below = omega (arith, point_may.below, fl.follows.points); none = ap (λ (t : ℕ → Option ℤ). t x.0) fl.follows.times ∙ point_may.none }
 
-      pub point_fires : (f : Flight) → d.live ≡ Some f → MayFire f.dispatch x.0
-      point_fires f at = may_fire_back d.mission d.history.items f.dispatch (flying d k f at).follows x.0 point_may.may
+      pub point_fires : (f : Flight) → d.live ≡ Some f → MayFire (moment f.dispatch) x.0
+      point_fires f at = may_fire (moment_of d.mission d.history.items) (moment f.dispatch) (turned (moment f.dispatch) (moment_of d.mission d.history.items) (like f at)) x.0 point_may.may
 
     -- a failure
     module _ (fails : is_failure deed ≡ true) where
@@ -122,6 +128,6 @@ early_from m h x b lawful =
     let r : EventReply m h (report x) (failed b) = otherwise _ _ _ (otherwise _ _ _ lawful (λ (e : failed b ≡ over). cc)) (λ (e : failed b ≡ no_net). cc) in
     inside (executed h x) (otherwise _ _ _ r (λ (e : failed b ≡ no_point). cc))
   where
-    inside : (o : Option ℤ) → MatchOption o (RefusedIf (not (watched m h x)) not_observed (failed b) (ReportReply m h x (failed b))) (λ t. failed b ≡ already t) → b.from.0 ≡ x
-    inside None r = let f : ReportReply m h x (failed b) = otherwise _ _ _ r (λ (e : failed b ≡ not_observed). cc) in ap (λ (c : Bound). c.from.0) f.1.1
+    inside : (o : Option ℤ) → MatchOption o (RefusedIf (not (watched m h x)) not_observed (failed b) (ToldReply (moment_of m h) x (failed b))) (λ t. failed b ≡ already t) → b.from.0 ≡ x
+    inside None r = let f : ToldReply (moment_of m h) x (failed b) = otherwise _ _ _ r (λ (e : failed b ≡ not_observed). cc) in ap (λ (c : Bound). c.from.0) f.1.1
     inside (Some t) r = absurd (cc)

@@ -3,7 +3,7 @@ use Rattle.std.specs.Prelude.{◌≡◌, ◌≢◌, ℕ, ◌<◌, false, List, [
 use Rattle.hs_base.specs.declared.mission.Mission.{Mission}
 use Rattle.hs_machine.specs.declared.history.Entry.{Entry}
 use Rattle.hs_base.specs.Points.{hor}
-use Rattle.hs_machine.specs.State.{now_of, plan_of, executed, has_failed}
+use Rattle.hs_machine.specs.State.{now_of, plan_of, executed, moment_of, has_failed}
 use Rattle.hs_machine.specs.Run.{Run}
 use Rattle.exec_laws.specs.Follows.{Follows}
 use Rattle.exec_core.specs.Room.{HasRoom}
@@ -15,7 +15,7 @@ pub record IsFlying (m : Mission) (h : List Entry) (f : Flight) : Type 0 where
   pub mission : f.plan.mission ≡ m
   pub plan : f.plan.plan.extensions ≡ plan_of h
   pub some : plan_of h ≢ []
-  pub follows : Follows m h f.dispatch
+  pub follows : Follows (moment_of m h) f.dispatch
   pub mark : f.mark.0 ≡ hor (plan_of h) (length (plan_of h))
 
 -- before the first handover no time goes by

@@ -1,7 +1,7 @@
 -- Whether an offered plan is the next one.
-use Rattle.std.specs.Prelude.{◌≡◌, ◌≢◌, ℕ, true, false, List, [], length}
+use Rattle.std.specs.Prelude.{◌≡◌, ℕ, true, false, List}
 use Rattle.hs_base.specs.declared.plan.Extension.{Extension}
-use Rattle.hs_machine.specs.Machine.{Event, handover, Replies, AgreeOn, needs_net, base_of, is_over, leaves_deed}
+use Rattle.hs_machine.specs.Machine.{Event, handover, Replies, IsNext, IsNotNext, needs_net, is_over, leaves_deed}
 use Rattle.hs_machine.specs.State.{plan_of, phase_of}
 use Rattle.plan_check.specs.Planned.{Planned}
 use Rattle.exec_core.specs.Recorded.{Recorded}
@@ -9,19 +9,12 @@ use Rattle.exec_core.specs.Replies.{reply_of}
 use Rattle.exec_core.specs.declared.reply.Reply.{Reply}
 use Rattle.exec_core.specs.declared.reply.Reply.TheVariants.{NotNext}
 
--- the reply names how far the newest plan and the offered one agree
-pub record IsNotNext (newest offered : List Extension) (r : Reply) : Type 0 where
-  pub apart : base_of offered ≡ newest → offered ≢ [] → ⊥
+-- the reply tells how far the newest plan and the offered one agree, which isn't the next one
+pub record TellsNotNext (newest offered : List Extension) (r : Reply) : Type 0 where
   pub current : ℕ
   pub agree : ℕ
   pub is : r ≡ NotNext current agree
-  pub all : current ≡ length newest
-  pub agrees : AgreeOn newest (base_of offered) agree
-
--- the offered plan is the newest one with one more extension
-pub record IsNextOf (newest offered : List Extension) : Type 0 where
-  pub some : offered ≢ []
-  pub base : base_of offered ≡ newest
+  pub apart : IsNotNext newest offered current agree
 
 -- the reply to every event that asks for a plan in execution, where none is
 abbrev pub IsTurnedAway : Recorded → Reply → Type 0
@@ -31,7 +24,7 @@ IsTurnedAway r reply = (event : Event) → needs_net event ≡ true → Replies 
 pub record MayTake (r : Recorded) (p : Planned) : Type 0 where
   pub going : is_over (phase_of r.history) ≡ false
   pub mission : p.mission ≡ r.mission
-  pub next : IsNextOf (plan_of r.history) p.plan.extensions
+  pub next : IsNext (plan_of r.history) p.plan.extensions
 
 -- the reply to the offered plan, where it isn't
 pub record IsTurnedDown (r : Recorded) (p : Planned) (reply : Reply) : Type 0 where

@@ -1,8 +1,7 @@
 ghost use Rattle.std.specs.Prelude.{◌≡◌, ◌<◌, None, MatchOption};
-ghost use Rattle.dispatcher.specs.State.{points, IsOpen};
-ghost use Rattle.exec_laws.specs.Decisions.{DecidesTick, DecidesFire, DecidesReport, DecidesOwn};
+ghost use Rattle.hs_machine.specs.Machine.{TickReply, PointReply, OwnReply, FireReply, ReportReply};
+ghost use Rattle.dispatcher.specs.State.{points, moment, IsOpen};
 ghost use Rattle.exec_core.specs.Replies.{reply_of};
-ghost use Rattle.exec_core.specs.Refused.{IsRefused};
 
 use crate::Reply;
 use dispatcher::Dispatch;
@@ -10,7 +9,7 @@ use hs_base::PointId;
 
 /// How a tick is answered.
 pub fn decide_tick(dispatch: &mut Dispatch) -> Reply
-    ensures reply { DecidesTick dispatch.old (reply_of result) }
+    ensures reply { TickReply (moment dispatch.old) (reply_of result) }
     ensures same { dispatch.new ≡ dispatch.old }
 {
     if dispatch.may_tick() {
@@ -27,7 +26,7 @@ pub fn decide_tick(dispatch: &mut Dispatch) -> Reply
 
 /// Why no event of that point is looked at, where it doesn't exist or was executed.
 fn refusal_of(dispatch: &Dispatch, point: PointId) -> Option<Reply>
-    ensures { MatchOption result (IsOpen dispatch.now point.0) (IsRefused dispatch.now point.0) }
+    ensures { MatchOption result (IsOpen dispatch.now point.0) (λ refusal. PointReply (moment dispatch.now) point.0 (reply_of refusal) ⊥) }
 {
     if point.0 as usize >= dispatch.points() {
         return Some(Reply::NoPoint);
@@ -39,7 +38,7 @@ fn refusal_of(dispatch: &Dispatch, point: PointId) -> Option<Reply>
 /// How the fire of an open point that isn't observed is answered.
 fn decide_own(dispatch: &mut Dispatch, point: PointId) -> Reply
     requires { IsOpen dispatch.old point.0 }
-    ensures reply { DecidesOwn dispatch.old point.0 (reply_of result) }
+    ensures reply { OwnReply (moment dispatch.old) point.0 (reply_of result) }
     ensures same { dispatch.new ≡ dispatch.old }
 {
     if let Some(point) = dispatch.tied(point) {
@@ -53,7 +52,7 @@ fn decide_own(dispatch: &mut Dispatch, point: PointId) -> Reply
 
 /// How the fire of a point is answered.
 pub fn decide_fire(dispatch: &mut Dispatch, point: PointId) -> Reply
-    ensures reply { DecidesFire dispatch.old point.0 (reply_of result) }
+    ensures reply { FireReply (moment dispatch.old) point.0 (reply_of result) }
     ensures same { dispatch.new ≡ dispatch.old }
 {
     match refusal_of(dispatch, point) {
@@ -70,7 +69,7 @@ pub fn decide_fire(dispatch: &mut Dispatch, point: PointId) -> Reply
 
 /// How the report of a point is answered.
 pub fn decide_report(dispatch: &mut Dispatch, point: PointId) -> Reply
-    ensures reply { DecidesReport dispatch.old point.0 (reply_of result) }
+    ensures reply { ReportReply (moment dispatch.old) point.0 (reply_of result) }
     ensures same { dispatch.new ≡ dispatch.old }
 {
     if let Some(refusal) = refusal_of(dispatch, point) {

@@ -1,6 +1,6 @@
 ghost use Rattle.std.specs.Prelude.{◌<◌, ◌^◌, MatchOption, length};
-ghost use Rattle.hs_machine.specs.Machine.{AgreeOn};
-ghost use Rattle.exec_core.specs.Next.{IsNextOf, IsNotNext};
+ghost use Rattle.hs_machine.specs.Machine.{AgreeOn, IsNext};
+ghost use Rattle.exec_core.specs.Next.{TellsNotNext};
 
 use crate::Reply;
 use hs_base::{Extension, Same};
@@ -21,7 +21,7 @@ fn agree_on(newest: &[Extension], offered: &[Extension]) -> usize
 /// Why the offered plan isn't the newest one with one more extension, where it isn't.
 pub fn not_next(newest: &[Extension], offered: &[Extension]) -> Option<Reply>
     requires { length newest.now < 2 ^ 32 }
-    ensures { MatchOption result (IsNextOf newest.now offered.now) (IsNotNext newest.now offered.now) }
+    ensures { MatchOption result (IsNext newest.now offered.now) (TellsNotNext newest.now offered.now) }
 {
     let current = newest.len() as u32;
     if offered.is_empty() {

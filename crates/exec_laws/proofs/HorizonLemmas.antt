@@ -11,8 +11,8 @@ use Rattle.hs_base.specs.Ranges.{range}
 use Rattle.hs_base.specs.Schedule.{Schedule, Meets, Holds}
 use Rattle.hs_base.specs.Points.{count, hor}
 use Rattle.hs_base.specs.Bounds.{new_bounds, exactly, on_some, IsScheduleOf}
-use Rattle.hs_machine.specs.State.{plan_of, executed, tick_at, has_ended}
-use Rattle.hs_machine.specs.Machine.{MayGoOn}
+use Rattle.hs_base.specs.Moments.{MayGoOn}
+use Rattle.hs_machine.specs.State.{plan_of, executed, tick_at, moment_of, has_ended}
 use Rattle.hs_machine.specs.Run.{Run}
 use Rattle.base_laws.proofs.ListLemmas.{EachAfter-push}
 use Rattle.base_laws.proofs.PointLemmas.{horizon_number, count-push}
@@ -75,7 +75,7 @@ before_horizon m h g run some open_ is =
     omega (arith, ints, at, later)
 
 -- where the time may go on, it is less
-pub before_tick : (m : Mission) (h : List Entry) (g : Horizon) → MayGoOn m h → plan_of h ≢ [] → has_ended h ≡ false → slice_get m.horizons (length (plan_of h) - 1) ≡ Some g → (tick_at h +ℤ pos 1) ≤ℤ g.tick
+pub before_tick : (m : Mission) (h : List Entry) (g : Horizon) → MayGoOn (moment_of m h) → plan_of h ≢ [] → has_ended h ≡ false → slice_get m.horizons (length (plan_of h) - 1) ≡ Some g → (tick_at h +ℤ pos 1) ≤ℤ g.tick
 before_tick m h g may some open_ is =
     let at = horizon_at m (plan_of h) may.s g some may.fits.meets is in
     let later = may.later (hor (plan_of h) (length (plan_of h))) (mark_below (plan_of h) some) (none_of (executed h (hor (plan_of h) (length (plan_of h)))) open_) in

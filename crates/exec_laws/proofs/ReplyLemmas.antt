@@ -8,8 +8,9 @@ use Rattle.hs_machine.specs.declared.history.Deed.{Deed}
 use Rattle.hs_machine.specs.declared.history.Deed.TheVariants.{Fire, Report, Late, Early, Broken}
 use Rattle.hs_machine.specs.declared.history.Phase.{Phase}
 use Rattle.hs_machine.specs.declared.history.Phase.TheVariants.{Waiting, Running, Failed, Ended}
-use Rattle.hs_machine.specs.State.{count_at, executed, phase_of, executes, is_failure, hands_over, is_tick}
-use Rattle.hs_machine.specs.Machine.{Event, fire, report, done, over, no_net, no_point, failed, RefusedIf, PointReply, Replies, IsLeftBy, MayFire, is_over, is_waiting, needs_net}
+use Rattle.hs_base.specs.Moments.{Moment, MayFire}
+use Rattle.hs_machine.specs.State.{count_at, executed, moment_of, phase_of, executes, is_failure, hands_over, is_tick}
+use Rattle.hs_machine.specs.Machine.{Event, fire, report, done, over, no_net, no_point, failed, RefusedIf, PointReply, Replies, IsLeftBy, is_over, is_waiting, needs_net}
 use Rattle.hs_machine.specs.Machine as machine
 use Rattle.run_laws.proofs.RunLemmas.{otherwise}
 use Rattle.run_laws.proofs.RunLemmas as run
@@ -41,22 +42,22 @@ pub record MayExecute (m : Mission) (h : List Entry) (d : Deed) (x : ℕ) : Type
   pub running : phase_of h ≡ Running
   pub below : x < count_at h
   pub none : executed h x ≡ None
-  pub may : MayFire m h x
+  pub may : MayFire (moment_of m h) x
   pub no_plan : hands_over d ≡ None
   pub no_tick : is_tick d ≡ false
   pub sound : is_failure d ≡ false
 
-point_below : (m : Mission) (h : List Entry) (x : ℕ) (P : Type 0) → PointReply m h x done P → x < count_at h
-point_below m h x P r = by_case (nat_le (count_at h) x) refl _ r
+point_below : (w : Moment) (x : ℕ) (P : Type 0) → PointReply w x done P → x < w.points
+point_below w x P r = by_case (nat_le w.points x) refl _ r
   where
-    by_case : (b : Bool) → nat_le (count_at h) x ≡ b → (Q : Type 0) → RefusedIf b no_point done Q → x < count_at h
+    by_case : (b : Bool) → nat_le w.points x ≡ b → (Q : Type 0) → RefusedIf b no_point done Q → x < w.points
     by_case true is Q r = absurd (let e : done ≡ no_point = r in cc)
     by_case false is Q r = grind (arith, nat_tests)
 
 fire_executes : (m : Mission) (h : List Entry) (x : PointId) → Replies m h (fire x.0) done → MayExecute m h (Fire x) x.0
 fire_executes m h x lawful = record {
   running = done_running m h (fire x.0) lawful refl;
-  below = point_below m h x.0 _ (run.event_reply m h (fire x.0) lawful);
+  below = point_below (moment_of m h) x.0 _ (run.event_reply m h (fire x.0) lawful);
   none = (run.fired m h x.0 lawful).0;
   may = (run.fired m h x.0 lawful).1;
   no_plan = refl;
@@ -67,7 +68,7 @@ fire_executes m h x lawful = record {
 report_executes : (m : Mission) (h : List Entry) (x : PointId) → Replies m h (report x.0) done → MayExecute m h (Report x) x.0
 report_executes m h x lawful = record {
   running = done_running m h (report x.0) lawful refl;
-  below = point_below m h x.0 _ (run.event_reply m h (report x.0) lawful);
+  below = point_below (moment_of m h) x.0 _ (run.event_reply m h (report x.0) lawful);
   none = (run.reported m h x.0 lawful).0;
   may = (run.reported m h x.0 lawful).1;
   no_plan = refl;

@@ -18,20 +18,22 @@ use Rattle.hs_base.specs.Bounds.{bounds_of}
 use Rattle.hs_base.specs.Network.{spread}
 use Rattle.hs_base.specs.Reduced.{IsReducedOf}
 use Rattle.hs_base.specs.Fits.{put, time_at, LateBound}
+use Rattle.hs_base.specs.Moments.{MayFire, MustFire, IsUntied, AreAlike, Moment}
+use Rattle.hs_base.specs.Schedule.{bound}
 use Rattle.hs_base.specs.Dispatch.{IsReached}
-use Rattle.hs_machine.specs.State.{now_of, plan_of, count_at, bounds_at, executed, tick_at, watched, phase_of, executes, hands_over}
-use Rattle.hs_machine.specs.Machine.{Event, Reply, tick, fire, report, handover, done, due, over, no_net, MayFire, MustFire, IsTied, Replies, EventReply, HandoverReply, IsLeftBy}
+use Rattle.hs_machine.specs.State.{now_of, plan_of, count_at, bounds_at, executed, tick_at, watched, moment_of, phase_of, executes, hands_over}
+use Rattle.hs_machine.specs.Machine.{Event, Reply, tick, fire, report, handover, done, due, over, no_net, Replies, EventReply, HandoverReply, IsLeftBy}
 use Rattle.hs_machine.specs.Run.{MayAdd, Run}
 use Rattle.base_laws.proofs.ListLemmas.{snoc_induction}
 use Rattle.base_laws.proofs.PointLemmas.{count-push}
 use Rattle.run_laws.proofs.StateLemmas.{plan_kept, plan_handed, times_kept, executed-put, now_of-push}
 use Rattle.run_laws.proofs.RunLemmas.{run_fits, event_reply, offered_base, otherwise}
-use Rattle.net_laws.proofs.ExactLemmas.{exact, reduced_again}
+use Rattle.net_laws.proofs.ExactLemmas.{reduced_again}
 use Rattle.net_laws.proofs.AnswerLemmas.{fits_both}
 use Rattle.net_laws.proofs.MoveLemmas.{tick_or}
 use Rattle.exec_laws.specs.Running.{GoesOn}
 use Rattle.exec_laws.proofs.SameLemmas as same
-use Rattle.exec_laws.proofs.SameLemmas.{HaveSame}
+use Rattle.exec_laws.proofs.FollowLemmas.{has_same}
 use Rattle.exec_laws.proofs.StepLemmas.{running, replies_running}
 use Rattle.exec_laws.proofs.ReplyLemmas.{answered_running, may_execute}
 
@@ -130,21 +132,21 @@ observed_below m es x is = by_case (slice_get (points_of es) x) refl is
 
 module _ (m : Mission) (h : List Entry) (run : Run m h) (is : phase_of h ≡ Running) where
   -- the fire of a point that may be executed, and its report
-  pub fire_done : (x : ℕ) → x < count_at h → executed h x ≡ None → watched m h x ≡ false → (IsTied m h x → ⊥) → MayFire m h x → Replies m h (fire x) done
+  pub fire_done : (x : ℕ) → x < count_at h → executed h x ≡ None → watched m h x ≡ false → IsUntied (moment_of m h) x → MayFire (moment_of m h) x → Replies m h (fire x) done
   fire_done x below none free untied may =
       let there : nat_le (count_at h) x ≡ false = grind (arith, nat_tests) in
       replies_running m h (fire x) done is (rw (there, none, free) (untied, may))
 
-  pub report_done : (x : ℕ) → x < count_at h → executed h x ≡ None → watched m h x ≡ true → MayFire m h x → Replies m h (report x) done
+  pub report_done : (x : ℕ) → x < count_at h → executed h x ≡ None → watched m h x ≡ true → MayFire (moment_of m h) x → Replies m h (report x) done
   report_done x below none seen may =
       let there : nat_le (count_at h) x ≡ false = grind (arith, nat_tests) in
       replies_running m h (report x) done is (rw (there, none, seen) may)
 
   -- a point that must be fired may be fired
-  pub due_fires : (some : plan_of h ≢ []) (x : ℕ) → MustFire m h x → Replies m h (fire x) done
+  pub due_fires : (some : plan_of h ≢ []) (x : ℕ) → MustFire (moment_of m h) x → Replies m h (fire x) done
   due_fires some x d =
       let f = run_fits m h run some in
-      fire_done x d.below d.none d.free (λ t. d.untied t.0 t.1.below t.1.watched t.1.waiting t.1.other t.1.together) (record { s = f.s; fits = f.fits; here = d.forced.each f.s f.fits })
+      fire_done x d.below d.none d.free d.untied (record { s = f.s; fits = f.fits; here = d.forced.each f.s f.fits })
 
   -- a late bound's point may be reported
   late_reports : (some : plan_of h ≢ []) → LateBound (count_at h) (bounds_at m h) (executed h) (tick_at h) (watched m h) → (x : ℕ) × Replies m h (report x) done
@@ -165,13 +167,14 @@ module _ (m : Mission) (h : List Entry) (run : Run m h) (is : phase_of h ≡ Run
   pub goes_on : plan_of h ≢ [] → GoesOn m h
   goes_on some =
       let k = net_of m h run some in
-      let has : HaveSame (spread k.net) (bounds_at m h) = record { there = λ t meets. (exact (count_at h) (bounds_at m h) k.net k.reduced t).0 meets; back = λ t meets. (exact (count_at h) (bounds_at m h) k.net k.reduced t).1 meets } in
+      let w : Moment = record { points = count_at h; bounds = spread k.net; at = executed h; tick = tick_at h; observed = watched m h } in
+      let like : AreAlike w (moment_of m h) = record { points = refl; schedules = has_same (count_at h) (bounds_at m h) k.net k.reduced; at = refl; tick = refl; observed = refl } in
       record {
         done = elim (tick_or (count_at h) k.net (reduced_again (count_at h) (bounds_at m h) k.net k.reduced) (executed h) (tick_at h) (reached some k) (watched m h)) [
-          | inl may ↦ inl (replies_running m h tick done is (same.tick (spread k.net) (bounds_at m h) has (count_at h) (executed h) (tick_at h) may))
+          | inl may ↦ inl (replies_running m h tick done is (same.may_go_on w (moment_of m h) like may))
           | inr r ↦ inr (elim r [
-            | inl d ↦ inl (d.0, due_fires some d.0 (same.due (spread k.net) (bounds_at m h) has (count_at h) (executed h) (tick_at h) (watched m h) d.0 d.1))
-            | inr l ↦ inr (late_reports some (same.late (spread k.net) (bounds_at m h) has (count_at h) (executed h) (tick_at h) (watched m h) l))
+            | inl d ↦ inl (d.0, due_fires some d.0 (same.must_fire w (moment_of m h) like d.0 d.1))
+            | inr l ↦ inr (late_reports some (same.is_late w (moment_of m h) like (bound l.from l.to l.most) (l, refl)).0)
           ])
         ];
       }

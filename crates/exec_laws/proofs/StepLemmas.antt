@@ -15,7 +15,7 @@ use Rattle.hs_base.specs.Points.{count, is_observed as ends_by_device}
 use Rattle.hs_base.specs.Bounds.{bounds_of}
 use Rattle.hs_base.specs.Reduced.{IsReducedOf}
 use Rattle.hs_base.specs.Fits.{put, time_at}
-use Rattle.hs_machine.specs.State.{now_of, plan_of, executed, tick_at, is_tick, is_failure, executes, hands_over, has_failed, has_ended, is_empty, phase_of}
+use Rattle.hs_machine.specs.State.{now_of, plan_of, executed, tick_at, moment_of, is_tick, is_failure, executes, hands_over, has_failed, has_ended, is_empty, phase_of}
 use Rattle.hs_machine.specs.Machine.{Event, Reply, Replies, EventReply, IsLeftBy, Turn, over, no_net, is_over, needs_net, leaves_deed}
 use Rattle.hs_machine.specs.Run.{MayAdd, Run}
 use Rattle.base_laws.proofs.ListLemmas.{EachAfter-more}
@@ -85,9 +85,9 @@ pub failed_more : (h : List Entry) (e : Entry) → has_failed (h ++ e ∷ []) �
 failed_more [] e = elim (cases_Bool (is_failure e.deed)) [ inl yes_ ↦ rw yes_ refl | inr no_ ↦ rw no_ refl ]
 failed_more (d ∷ h) e = elim (cases_Bool (is_failure d.deed)) [ inl yes_ ↦ rw yes_ refl | inr no_ ↦ rw no_ (failed_more h e) ]
 
-module _ (m : Mission) (h : List Entry) (s : State) (f : Follows m h s) where
+module _ (m : Mission) (h : List Entry) (s : State) (f : Follows (moment_of m h) s) where
   -- another state and a longer history with the same plan
-  follows_on : (g : List Entry) (t : State) → plan_of g ≡ plan_of h → t.net ≡ s.net → t.observed ≡ s.observed → length t.times ≡ length s.times → ((x : ℕ) → time_in t x ≡ executed g x) → t.tick ≡ tick_at g → Follows m g t
+  follows_on : (g : List Entry) (t : State) → plan_of g ≡ plan_of h → t.net ≡ s.net → t.observed ≡ s.observed → length t.times ≡ length s.times → ((x : ℕ) → time_in t x ≡ executed g x) → t.tick ≡ tick_at g → Follows (moment_of m g) t
   follows_on g t plan net seen size times tick = record {
     reduced = subst (λ z. IsReducedOf (count (plan_of g)) (bounds_of m (plan_of g)) z) (sym net) (subst (λ (es : List Extension). IsReducedOf (count es) (bounds_of m es) s.net) (sym plan) f.reduced);
     points = size ∙ f.points ∙ ap count (sym plan);
@@ -97,14 +97,14 @@ module _ (m : Mission) (h : List Entry) (s : State) (f : Follows m h s) where
   }
 
   -- an entry that neither hands over, executes nor ticks
-  pub follows_idle : (e : Entry) → hands_over e.deed ≡ None → executes e.deed ≡ None → is_tick e.deed ≡ false → Follows m (h ++ e ∷ []) s
+  pub follows_idle : (e : Entry) → hands_over e.deed ≡ None → executes e.deed ≡ None → is_tick e.deed ≡ false → Follows (moment_of m (h ++ e ∷ [])) s
   follows_idle e no_plan no_time no_tick =
       follows_on (h ++ e ∷ []) s (plan_kept h e no_plan) refl refl refl
       (λ x. ap (λ (t : ℕ → Option ℤ). t x) f.times ∙ sym (ap (λ ts. time_at ts x) (times_kept h e no_time)))
       (f.tick ∙ ap pos (sym (now_of-push h e ∙ ap (λ b. now_of h + cond b 1 0) no_tick ∙ add-zero (now_of h))))
 
   -- a tick
-  pub follows_tick : (e : Entry) → hands_over e.deed ≡ None → executes e.deed ≡ None → is_tick e.deed ≡ true → Follows m (h ++ e ∷ []) (ticked s)
+  pub follows_tick : (e : Entry) → hands_over e.deed ≡ None → executes e.deed ≡ None → is_tick e.deed ≡ true → Follows (moment_of m (h ++ e ∷ [])) (ticked s)
   follows_tick e no_plan no_time ticks =
       let counted : now_of (h ++ e ∷ []) ≡ now_of h + 1 = now_of-push h e ∙ ap (λ b. now_of h + cond b 1 0) ticks in
       follows_on (h ++ e ∷ []) (ticked s) (plan_kept h e no_plan) refl refl refl
@@ -118,7 +118,7 @@ module _ (m : Mission) (h : List Entry) (s : State) (f : Follows m h s) where
   ]
 
   -- a point that is executed now
-  pub follows_point : (e : Entry) (x : PointId) → hands_over e.deed ≡ None → executes e.deed ≡ Some x → is_tick e.deed ≡ false → x.0 < length s.times → time_in s x.0 ≡ None → Follows m (h ++ e ∷ []) (fired s x.0)
+  pub follows_point : (e : Entry) (x : PointId) → hands_over e.deed ≡ None → executes e.deed ≡ Some x → is_tick e.deed ≡ false → x.0 < length s.times → time_in s x.0 ≡ None → Follows (moment_of m (h ++ e ∷ [])) (fired s x.0)
   follows_point e x no_plan is no_tick below open_ =
       let free : executed h x.0 ≡ None = ap (λ (t : ℕ → Option ℤ). t x.0) (sym f.times) ∙ open_ in
       follows_on (h ++ e ∷ []) (fired s x.0) (plan_kept h e no_plan) refl refl (length-set s.times x.0 (Some s.tick))

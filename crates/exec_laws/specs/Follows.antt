@@ -1,15 +1,13 @@
--- A dispatch that follows a history of the machine.
-use Rattle.std.specs.Prelude.{◌≡◌, length, List}
-use Rattle.hs_base.specs.declared.mission.Mission.{Mission}
-use Rattle.hs_machine.specs.declared.history.Entry.{Entry}
+-- A dispatch that follows a moment.
+use Rattle.std.specs.Prelude.{◌≡◌, length}
 use Rattle.hs_base.specs.Reduced.{IsReducedOf}
-use Rattle.hs_machine.specs.State.{count_at, bounds_at, executed, tick_at, watched}
+use Rattle.hs_base.specs.Moments.{Moment}
 use Rattle.dispatcher.specs.State.{State, time_in, is_observed}
 
--- it has the newest plan's reduced network and observed points, the executed times, and now
-pub record Follows (m : Mission) (h : List Entry) (s : State) : Type 0 where
-  pub reduced : IsReducedOf (count_at h) (bounds_at m h) s.net
-  pub points : length s.times ≡ count_at h
-  pub times : time_in s ≡ executed h
-  pub observed : is_observed s ≡ watched m h
-  pub tick : s.tick ≡ tick_at h
+-- it has the reduced network of the moment's bounds, and the moment's points, executed times, observed points and tick
+pub record Follows (w : Moment) (s : State) : Type 0 where
+  pub reduced : IsReducedOf w.points w.bounds s.net
+  pub points : length s.times ≡ w.points
+  pub times : time_in s ≡ w.at
+  pub observed : is_observed s ≡ w.observed
+  pub tick : s.tick ≡ w.tick

@@ -12,7 +12,7 @@ use Rattle.hs_machine.specs.declared.history.Phase.TheVariants.{Running, Failed,
 use Rattle.hs_base.specs.Fits.{time_at}
 use Rattle.hs_base.specs.Points.{hor, count}
 use Rattle.hs_machine.specs.Run.{MayAdd, Run}
-use Rattle.hs_machine.specs.State.{now_of, plan_of, executes, executed, hands_over, has_failed, has_ended, phase_of, watched}
+use Rattle.hs_machine.specs.State.{now_of, plan_of, executes, executed, hands_over, has_failed, has_ended, moment_of, phase_of, watched}
 use Rattle.hs_machine.specs.Machine.{Event, Reply, report, done, over, not_observed, is_over, leaves_deed, RefusedIf, Replies, IsLeftBy}
 use Rattle.base_laws.proofs.ListLemmas.{EachAfter-push}
 use Rattle.base_laws.proofs.PointLemmas.{horizon_number}
@@ -89,7 +89,7 @@ module _ (m : Mission) (h : List Entry) (by : ℕ) (run : Run m h) (unwatched : 
 
   -- no report is Done where no point is observed
   no_report : (x : PointId) → Replies m h (report x.0) done → ⊥
-  no_report x lawful = by_case (watched m h x.0) refl _ (point_rest m h x.0 _ (event_reply m h (report x.0) lawful))
+  no_report x lawful = by_case (watched m h x.0) refl _ (point_rest (moment_of m h) x.0 _ (event_reply m h (report x.0) lawful))
     where
       by_case : (b : Bool) → watched m h x.0 ≡ b → (P : Type 0) → RefusedIf (not b) not_observed done P → ⊥
       by_case true is P r = let f : true ≡ false = sym is ∙ unwatched x.0 in cc

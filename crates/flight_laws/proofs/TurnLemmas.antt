@@ -9,8 +9,8 @@ use Rattle.hs_machine.specs.declared.history.Deed.TheVariants.{Tick, Fire, Repor
 use Rattle.hs_machine.specs.declared.history.Phase.TheVariants.{Running}
 use Rattle.hs_machine.specs.Run.{Run}
 use Rattle.hs_machine.specs.Eager.{NoneMayFire}
-use Rattle.hs_machine.specs.State.{count_at, executed, watched, phase_of}
-use Rattle.hs_machine.specs.Machine.{Event, Reply, tick, fire, report, broken, handover, done, due, not_yet, waits, observed, already, no_point, failed, over, no_net, RefusedIf, FireReply, TickReply, Replies, IsLeftBy, IsAdded, Turn, is_over, is_waiting, leaves_deed}
+use Rattle.hs_machine.specs.State.{count_at, executed, watched, moment_of, phase_of}
+use Rattle.hs_machine.specs.Machine.{Event, Reply, tick, fire, report, broken, handover, done, due, not_yet, waits, observed, already, no_point, failed, over, no_net, RefusedIf, OwnReply, TickReply, Replies, IsLeftBy, IsAdded, Turn, is_over, is_waiting, leaves_deed}
 use Rattle.exec_laws.proofs.StepLemmas.{run_more}
 use Rattle.exec_laws.proofs.RunningLemmas.{due_done}
 use Rattle.flight_laws.specs.Flights.{IsUnwatched}
@@ -108,8 +108,8 @@ fire_quiet m h x r other =
     (open_still (executed h x) r _ _
     (refused (watched m h x) observed r _ _ refl (λ (e : observed ≡ done). cc) (own r other)))))
   where
-    own : (s : Reply) → s ≢ done → FireReply m h x s → Quiet s (FireReply m h x done)
-    own (waits y) o f = record { silent = refl; not = λ d. d.0 (y, f.tied) }
+    own : (s : Reply) → s ≢ done → OwnReply (moment_of m h) x s → Quiet s (OwnReply (moment_of m h) x done)
+    own (waits y) o f = record { silent = refl; not = λ d. d.0 y f.tied }
     own done o f = absurd (o refl)
     own (not_yet b) o f = record { silent = refl; not = λ d. f.1 d.1 }
     own _ o f = absurd f
@@ -118,7 +118,7 @@ fire_quiet m h x r other =
 pub tick_goes : (m : Mission) (h : List Entry) (r : Reply) → Run m h → phase_of h ≡ Running → NoneMayFire m h → IsUnwatched m h → Replies m h tick r → r ≡ done
 tick_goes m h r run running still unwatched lawful = by_reply r lawful (rw running at lawful)
   where
-    by_reply : (s : Reply) → Replies m h tick s → TickReply m h s → s ≡ done
+    by_reply : (s : Reply) → Replies m h tick s → TickReply (moment_of m h) s → s ≡ done
     by_reply done whole t = refl
     by_reply (due x) whole t = absurd (still x (due_done m h run x whole))
     by_reply (failed b) whole t = absurd (let e : true ≡ false = sym t.2.0.watched ∙ unwatched t.2.0.to in cc)

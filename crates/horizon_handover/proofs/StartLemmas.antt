@@ -1,6 +1,7 @@
 -- A checked plan at time 0, where nothing but Z is executed.
 use Rattle.std.proofs.Common.{◌≡◌, ℕ, zero, suc, ◌<◌, ◌≤◌, Bool, false, List, [], length, get_or, Option, Some, None, refl, sym, ap, ◌∙◌, subst, arith, pos, inl, inr, map}
 use Rattle.std.proofs.lemmas.Int.{ints}
+use Rattle.std.proofs.Math.Path.{fun_ext}
 use Rattle.std.proofs.lemmas.Option.{slice_get_past}
 use Rattle.std.proofs.lemmas.Bool.{cases_lt}
 use Rattle.std.proofs.lemmas.List.{get_or_past}
@@ -27,7 +28,8 @@ use Rattle.dispatcher.proofs.TimesLemmas.{times_are}
 use Rattle.plan_check.specs.Planned.{Planned}
 use Rattle.stn_distance.specs.Distances.{Distances}
 use Rattle.edge_filter.specs.Reform.{Reform, IsReformed}
-use Rattle.horizon_handover.specs.Offers.{IsDispatchOf}
+use Rattle.exec_laws.specs.Follows.{Follows}
+use Rattle.horizon_handover.specs.Offers.{beginning}
 
 -- only Z is executed at first
 first_only : (x : ℕ) (t : ℤ) → executed [] x ≡ Some t → (x ≡ 0) × (t ≡ pos 0)
@@ -84,11 +86,11 @@ module _ (p : Planned) (k : Checked p.mission p.plan.extensions) where
     pub flags_size : length flags ≡ count es
     flags_size = length-map-range_with_len (λ y. is_observed p.mission es y) 0 (count es)
 
-    pub start_dispatch : IsDispatchOf p (executed []) (pos 0) (begun net flags (times_of []) (pos 0))
+    pub start_dispatch : Follows (beginning p) (begun net flags (times_of []) (pos 0))
     start_dispatch = record {
       reduced = is;
       points = length-map-range_with_len (time_at (times_of [])) 0 (length flags) ∙ flags_size;
-      times = λ x. ap (λ (t : ℕ → Option ℤ). t x) (times_are (times_of []) (length flags) (λ y t at. omega (arith, (first_only y t at).0, some_points, flags_size)));
-      observed = flags_of p.mission es;
+      times = times_are (times_of []) (length flags) (λ y t at. omega (arith, (first_only y t at).0, some_points, flags_size));
+      observed = fun_ext (flags_of p.mission es);
       tick = refl;
     }

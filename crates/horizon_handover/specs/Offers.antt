@@ -6,10 +6,11 @@ use Rattle.hs_base.specs.Points.{count, is_observed as ends_by_device}
 use Rattle.hs_base.specs.Bounds.{bounds_of}
 use Rattle.hs_base.specs.Checked.{Checked}
 use Rattle.hs_base.specs.Reduced.{IsReducedOf}
-use Rattle.hs_base.specs.Fits.{Times}
+use Rattle.hs_base.specs.Moments.{Moment, moment_in}
 use Rattle.hs_machine.specs.State.{executed}
 use Rattle.stn_distance.specs.Distances.{Distances, IsDistOf}
-use Rattle.dispatcher.specs.State.{State, time_in, is_observed}
+use Rattle.dispatcher.specs.State.{State}
+use Rattle.exec_laws.specs.Follows.{Follows}
 use Rattle.plan_check.specs.Planned.{Planned}
 
 -- a checked plan with its last extension, its reduced network, its distances and a dispatch of it
@@ -25,13 +26,9 @@ abbrev pub IsLast : List Extension → Option Extension → Type 0
 IsLast es None = es ≡ []
 IsLast es (Some e) = es ≡ take (length es - 1) es ++ e ∷ []
 
--- the dispatch of a plan with these executed times, at time n
-pub record IsDispatchOf (p : Planned) (at : Times) (n : ℤ) (s : State) : Type 0 where
-  pub reduced : IsReducedOf (count p.plan.extensions) (bounds_of p.mission p.plan.extensions) s.net
-  pub points : length s.times ≡ count p.plan.extensions
-  pub times : (x : ℕ) → time_in s x ≡ at x
-  pub observed : (x : ℕ) → is_observed s x ≡ ends_by_device p.mission p.plan.extensions x
-  pub tick : s.tick ≡ n
+-- the moment in which a plan's execution begins: nothing but Z is executed
+abbrev pub beginning : Planned → Moment
+beginning p = moment_in p.mission p.plan.extensions (executed []) (pos 0)
 
 -- the parts of an offer belong together, and its dispatch stands at 0
 pub record IsReady (o : Offered) : Type 0 where
@@ -39,4 +36,4 @@ pub record IsReady (o : Offered) : Type 0 where
   pub last : IsLast o.plan.plan.extensions o.extension
   pub net : o.net ≡ o.dispatch.net
   pub dist : IsDistOf (count o.plan.plan.extensions) (bounds_of o.plan.mission o.plan.plan.extensions) o.dist
-  pub dispatch : IsDispatchOf o.plan (executed []) (pos 0) o.dispatch
+  pub dispatch : Follows (beginning o.plan) o.dispatch

@@ -1,7 +1,7 @@
-ghost use Rattle.std.specs.Prelude.{◌≡◌, pos, []};
+ghost use Rattle.std.specs.Prelude.{◌≡◌};
 ghost use Rattle.hs_base.specs.Checked.{Checked};
-ghost use Rattle.hs_machine.specs.State.{executed};
-ghost use Rattle.horizon_handover.specs.Offers.{IsDispatchOf, IsLast};
+ghost use Rattle.exec_laws.specs.Follows.{Follows};
+ghost use Rattle.horizon_handover.specs.Offers.{beginning, IsLast};
 
 use dispatcher::Dispatch;
 use hs_base::{Extension, Net};
@@ -56,7 +56,7 @@ impl Offer {
     pub fn launch(self) -> Handed
         ensures plan { result.live.plan ≡ self.plan }
         ensures checked { Checked self.plan.mission self.plan.plan.extensions }
-        ensures dispatch { IsDispatchOf self.plan (executed []) (pos 0) result.live.dispatch }
+        ensures dispatch { Follows (beginning self.plan) result.live.dispatch }
         ensures last { IsLast self.plan.plan.extensions result.extension }
         ensures net { result.net ≡ result.live.dispatch.net }
     {

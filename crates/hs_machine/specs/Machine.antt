@@ -4,12 +4,13 @@ use Rattle.hs_base.specs.declared.net.Bound.{Bound}
 use Rattle.hs_base.specs.declared.plan.Extension.{Extension}
 use Rattle.hs_base.specs.declared.mission.Mission.{Mission}
 use Rattle.hs_machine.specs.Types.{Entry, Deed, Tick, Fire, Report, Handover, Stale, Late, Early, Broken, Phase, Waiting, Failed, Ended}
-use Rattle.hs_base.specs.Schedule.{Schedule, bound}
+use Rattle.hs_base.specs.Schedule.{Schedule}
 use Rattle.hs_base.specs.Points.{count}
 use Rattle.hs_base.specs.Bounds.{bounds_of}
 use Rattle.hs_base.specs.Reduced.{IsReducedOf}
-use Rattle.hs_base.specs.Fits.{Fits, MayBeNow, MayTick, IsTiedTo, IsLeastTied, Forbids, IsDue, LateBound, Breaks}
-use Rattle.hs_machine.specs.State.{plan_of, count_at, bounds_at, executed, tick_at, watched, phase_of}
+use Rattle.hs_base.specs.Fits.{Fits, Breaks}
+use Rattle.hs_base.specs.Moments.{Moment, MayFire, MayGoOn, MustFire, IsLeastTied, IsUntied, Bars, IsLate}
+use Rattle.hs_machine.specs.State.{plan_of, executed, tick_at, moment_of, phase_of}
 use Rattle.hs_base.specs.Snapshots.{Snapshot}
 use Rattle.hs_machine.specs.Views.{snapshot_of, Line, line_of}
 
@@ -42,57 +43,47 @@ pub data Reply : Type 0 where
   shown : Line → Reply
   memory : Reply
 
--- the state's point x is tied to an observed point
-abbrev pub IsTied : Mission → List Entry → ℕ → Type 0
-IsTied m h x = (y : ℕ) × IsTiedTo (count_at h) (bounds_at m h) (executed h) (watched m h) x y
+-- where the test holds the reply is that refusal, and otherwise the rest decides
+abbrev pub RefusedIf : Bool → Reply → Reply → Type 0 → Type 0
+RefusedIf test refusal reply rest = MatchBool test (reply ≡ refusal) rest
 
-abbrev pub IsLeastTie : Mission → List Entry → ℕ → ℕ → Type 0
-IsLeastTie m h x y = IsLeastTied (count_at h) (bounds_at m h) (executed h) (watched m h) x y
+-- a reply about a point: it has to exist, and not to be executed yet
+abbrev pub PointReply : Moment → ℕ → Reply → Type 0 → Type 0
+PointReply w x reply rest = RefusedIf (nat_le w.points x) no_point reply (MatchOption (w.at x) rest (λ t. reply ≡ already t))
 
--- some fitting schedule gives x the time now
-abbrev pub MayFire : Mission → List Entry → ℕ → Type 0
-MayFire m h x = MayBeNow (count_at h) (bounds_at m h) (executed h) (tick_at h) x
+-- the reply to a tick
+abbrev pub TickReply : Moment → Reply → Type 0
+TickReply w done = MayGoOn w
+TickReply w (due x) = (MayGoOn w → ⊥) × MustFire w x
+TickReply w (failed b) = (MayGoOn w → ⊥) × ((x : ℕ) → MustFire w x → ⊥) × IsLate w b
+TickReply w _ = ⊥
 
--- some fitting schedule gives every point that is not executed a later time
-abbrev pub MayGoOn : Mission → List Entry → Type 0
-MayGoOn m h = MayTick (count_at h) (bounds_at m h) (executed h) (tick_at h)
+-- the reply to the fire of a point that is not observed, and to the report of one that is
+abbrev pub OwnReply : Moment → ℕ → Reply → Type 0
+OwnReply w x (waits y) = IsLeastTied w x y
+OwnReply w x done = IsUntied w x × MayFire w x
+OwnReply w x (not_yet b) = IsUntied w x × (MayFire w x → ⊥) × Bars w x b
+OwnReply w x _ = ⊥
 
--- x is one of the points that have to be fired before the next tick
-abbrev pub MustFire : Mission → List Entry → ℕ → Type 0
-MustFire m h x = IsDue (count_at h) (bounds_at m h) (executed h) (tick_at h) (watched m h) x
+abbrev pub ToldReply : Moment → ℕ → Reply → Type 0
+ToldReply w x done = MayFire w x
+ToldReply w x (failed b) = (MayFire w x → ⊥) × Bars w x b
+ToldReply w x _ = ⊥
 
--- the execution of x now would break the tight bound b
-abbrev pub IsForbiddenBy : Mission → List Entry → ℕ → Bound → Type 0
-IsForbiddenBy m h x b = (f : Forbids (count_at h) (bounds_at m h) (executed h) (tick_at h) x) × (b ≡ bound x f.to f.most)
+-- the reply to the fire of any point, and to its report
+abbrev pub FireReply : Moment → ℕ → Reply → Type 0
+FireReply w x reply = PointReply w x reply (RefusedIf (w.observed x) observed reply (OwnReply w x reply))
 
--- the next tick would break the tight bound b, which only a report could have kept
-abbrev pub IsLateBy : Mission → List Entry → Bound → Type 0
-IsLateBy m h b = (l : LateBound (count_at h) (bounds_at m h) (executed h) (tick_at h) (watched m h)) × (b ≡ bound l.from l.to l.most)
-
-abbrev pub TickReply : Mission → List Entry → Reply → Type 0
-TickReply m h done = MayGoOn m h
-TickReply m h (due x) = (MayGoOn m h → ⊥) × MustFire m h x
-TickReply m h (failed b) = (MayGoOn m h → ⊥) × ((x : ℕ) → MustFire m h x → ⊥) × IsLateBy m h b
-TickReply m h _ = ⊥
-
-abbrev pub FireReply : Mission → List Entry → ℕ → Reply → Type 0
-FireReply m h x (waits y) = IsLeastTie m h x y
-FireReply m h x done = (IsTied m h x → ⊥) × MayFire m h x
-FireReply m h x (not_yet b) = (IsTied m h x → ⊥) × (MayFire m h x → ⊥) × IsForbiddenBy m h x b
-FireReply m h x _ = ⊥
-
-abbrev pub ReportReply : Mission → List Entry → ℕ → Reply → Type 0
-ReportReply m h x done = MayFire m h x
-ReportReply m h x (failed b) = (MayFire m h x → ⊥) × IsForbiddenBy m h x b
-ReportReply m h x _ = ⊥
+abbrev pub ReportReply : Moment → ℕ → Reply → Type 0
+ReportReply w x reply = PointReply w x reply (RefusedIf (not (w.observed x)) not_observed reply (ToldReply w x reply))
 
 -- the plan without its last extension
 abbrev pub base_of : List Extension → List Extension
 base_of es = take (length es - 1) es
 
 -- the plan is the newest one with one more extension
-abbrev pub IsNext : List Entry → List Extension → Type 0
-IsNext h es = (es ≢ []) × (base_of es ≡ plan_of h)
+abbrev pub IsNext : List Extension → List Extension → Type 0
+IsNext newest es = (es ≢ []) × (base_of es ≡ newest)
 
 -- the lists agree on so many leading extensions, and on no more
 abbrev pub AgreeOn : List Extension → List Extension → ℕ → Type 0
@@ -101,6 +92,10 @@ AgreeOn (x ∷ xs) [] n = n ≡ 0
 AgreeOn (x ∷ xs) (y ∷ ys) zero = x ≢ y
 AgreeOn (x ∷ xs) (y ∷ ys) (suc n) = (x ≡ y) × AgreeOn xs ys n
 
+-- the plan is not the next one: the newest has so many extensions, of which it has so many leading ones
+abbrev pub IsNotNext : List Extension → List Extension → ℕ → ℕ → Type 0
+IsNotNext newest es current agree = (IsNext newest es → ⊥) × (current ≡ length newest) × AgreeOn newest (base_of es) agree
+
 -- s is a schedule of the offered plan that agrees with the past
 abbrev pub FitsOffer : Mission → List Entry → List Extension → Schedule → Type 0
 FitsOffer m h es s = Fits (count es) (bounds_of m es) (executed h) (tick_at h) s
@@ -108,18 +103,10 @@ FitsOffer m h es s = Fits (count es) (bounds_of m es) (executed h) (tick_at h) s
 abbrev pub HandoverReply : Mission → List Entry → Mission → List Extension → Reply → Type 0
 HandoverReply m h m2 es memory = ⊤
 HandoverReply m h m2 es other_mission = m2 ≢ m
-HandoverReply m h m2 es (not_next current agree) = (m2 ≡ m) × (IsNext h es → ⊥) × (current ≡ length (plan_of h)) × AgreeOn (plan_of h) (base_of es) agree
-HandoverReply m h m2 es (stale b p q) = (m2 ≡ m) × IsNext h es × ((s : Schedule) → FitsOffer m h es s → ⊥) × Breaks (count es) (bounds_of m es) (executed h) (tick_at h) b p q
-HandoverReply m h m2 es done = (m2 ≡ m) × IsNext h es × ((s : Schedule) × FitsOffer m h es s)
+HandoverReply m h m2 es (not_next current agree) = (m2 ≡ m) × IsNotNext (plan_of h) es current agree
+HandoverReply m h m2 es (stale b p q) = (m2 ≡ m) × IsNext (plan_of h) es × ((s : Schedule) → FitsOffer m h es s → ⊥) × Breaks (count es) (bounds_of m es) (executed h) (tick_at h) b p q
+HandoverReply m h m2 es done = (m2 ≡ m) × IsNext (plan_of h) es × ((s : Schedule) × FitsOffer m h es s)
 HandoverReply m h m2 es _ = ⊥
-
--- where the test holds the reply is that refusal, and otherwise the rest decides
-abbrev pub RefusedIf : Bool → Reply → Reply → Type 0 → Type 0
-RefusedIf test refusal reply rest = MatchBool test (reply ≡ refusal) rest
-
--- a reply about a point: it has to exist, and not to be executed yet
-abbrev pub PointReply : Mission → List Entry → ℕ → Reply → Type 0 → Type 0
-PointReply m h x reply rest = RefusedIf (nat_le (count_at h) x) no_point reply (MatchOption (executed h x) rest (λ t. reply ≡ already t))
 
 -- a reply about a variable: it has to exist
 abbrev pub VariableReply : Mission → ℕ → Reply → Type 0 → Type 0
@@ -127,9 +114,9 @@ VariableReply m v reply rest = RefusedIf (nat_le (length m.vars) v) no_point rep
 
 -- the reply to each event that the phase allows
 abbrev pub EventReply : Mission → List Entry → Event → Reply → Type 0
-EventReply m h tick reply = TickReply m h reply
-EventReply m h (fire x) reply = PointReply m h x reply (RefusedIf (watched m h x) observed reply (FireReply m h x reply))
-EventReply m h (report x) reply = PointReply m h x reply (RefusedIf (not (watched m h x)) not_observed reply (ReportReply m h x reply))
+EventReply m h tick reply = TickReply (moment_of m h) reply
+EventReply m h (fire x) reply = FireReply (moment_of m h) x reply
+EventReply m h (report x) reply = ReportReply (moment_of m h) x reply
 EventReply m h (broken d) reply = VariableReply m d reply (reply ≡ done)
 EventReply m h (handover m2 es) reply = HandoverReply m h m2 es reply
 EventReply m h look reply = (reply ≡ memory) ⊎ (reply ≡ seen (snapshot_of m h))

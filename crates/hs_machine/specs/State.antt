@@ -11,6 +11,7 @@ use Rattle.hs_base.specs.Points.{count, hor, is_observed}
 use Rattle.hs_base.specs.Bounds.{bounds_of}
 use Rattle.hs_base.specs.Schedule.{Schedule}
 use Rattle.hs_base.specs.Fits.{Times, time_at, Fits}
+use Rattle.hs_base.specs.Moments.{Moment, moment_in}
 
 abbrev pub is_tick : Deed → Bool
 is_tick Tick = true
@@ -75,6 +76,10 @@ tick_at h = pos (now_of h)
 
 abbrev pub watched : Mission → List Entry → ℕ → Bool
 watched m h x = is_observed m (plan_of h) x
+
+-- the moment that the history has come to
+abbrev pub moment_of : Mission → List Entry → Moment
+moment_of m h = moment_in m (plan_of h) (executed h) (tick_at h)
 
 -- s is a schedule of the newest plan, agrees with what was executed, and gives every other point now or later
 abbrev pub FitsState : Mission → List Entry → Schedule → Type 0

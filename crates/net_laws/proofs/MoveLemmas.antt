@@ -8,7 +8,7 @@ use Rattle.hs_base.specs.declared.net.Group.{Group}
 use Rattle.hs_base.specs.declared.net.Net.{Net}
 use Rattle.hs_base.specs.Network.{spread}
 use Rattle.hs_base.specs.Reduced.{IsReducedOf}
-use Rattle.hs_base.specs.Fits.{Times, MayBeNow, MayTick, IsForced, IsOneTime, IsDue, LateBound, put}
+use Rattle.hs_base.specs.Fits.{Times, MayBeNow, MayTick, IsForced, IsOneTime, IsTiedTo, IsDue, LateBound, put}
 use Rattle.hs_base.specs.Dispatch.{stands, time_by, group_time, IsReached}
 use Rattle.net_laws.proofs.BetweenLemmas.{Has}
 use Rattle.net_laws.proofs.KeptLemmas.{cases_sign}
@@ -74,24 +74,19 @@ module _ (c : ℕ) (net : Net) (is : IsReducedOf c (spread net) net) (at : Times
         ]
       ]
 
-  -- y is observed, not executed, not x, and has x's time in every schedule
-  record TiesTo (observed : ℕ → Bool) (x y : ℕ) : Type 0 where
-    below : y < c
-    watched : observed y ≡ true
-    none : at y ≡ None
-    other : y ≡ x → ⊥
-    one : IsOneTime (spread net) x y
+  abbrev TiesTo : (ℕ → Bool) → ℕ → ℕ → Type 0
+  TiesTo observed x y = IsTiedTo c (spread net) at observed x y
 
   tie_at : (observed : ℕ → Bool) (x y : ℕ) → x < c → y < c → TiesTo observed x y ⊎ (TiesTo observed x y → ⊥)
   tie_at observed x y ix iy = elim (cases_Bool (observed y)) [
     | inr no_ ↦ inr (λ h. both_ways (observed y) no_ h.watched)
     | inl yes_ ↦ elim (cases_Option (at y)) [
-      | inr some ↦ inr (λ h. let f = h.none in let g = some.1 in absurd (cc))
+      | inr some ↦ inr (λ h. let f = h.waiting in let g = some.1 in absurd (cc))
       | inl none ↦ elim (cases_eq y x) [
         | inl same ↦ inr (λ h. h.other same)
         | inr other ↦ elim (one_time_or x y ix iy) [
-          | inl one ↦ inl (record { below = iy; watched = yes_; none = none; other = other; one = one })
-          | inr not_one ↦ inr (λ h. not_one h.one)
+          | inl one ↦ inl (record { below = iy; watched = yes_; waiting = none; other = other; together = one })
+          | inr not_one ↦ inr (λ h. not_one h.together)
         ]
       ]
     ]
@@ -121,7 +116,7 @@ module _ (c : ℕ) (net : Net) (is : IsReducedOf c (spread net) net) (at : Times
     | inr r ↦ inr (elim (cases_Bool (observed r.0)) [
       | inl watched ↦ inr (late_at observed r.0 r.1 watched r.2 r.3)
       | inr free ↦ elim (tie_or observed r.0 r.1 c (omega arith)) [
-        | inl t ↦ inr (late_at observed t.0 t.1.below t.1.watched t.1.none (record { each = λ s f. sym (t.1.one.each s f.meets) ∙ r.3.each s f }))
+        | inl t ↦ inr (late_at observed t.0 t.1.below t.1.watched t.1.waiting (record { each = λ s f. sym (t.1.together.each s f.meets) ∙ r.3.each s f }))
         | inr none ↦ inl (
           r.0,
           record {
@@ -129,7 +124,7 @@ module _ (c : ℕ) (net : Net) (is : IsReducedOf c (spread net) net) (at : Times
             none = r.2;
             forced = r.3;
             free = free;
-            untied = λ y iy watched unset other one. none y iy (record { below = iy; watched = watched; none = unset; other = other; one = one });
+            untied = λ y t. none y t.below t;
           },
         )
       ]

@@ -1,6 +1,6 @@
 -- Laws of the leaders between two leaders and of dominance (Muscettola, Morris, Tsamardinos 1998), each
 -- of a table of tight weights and of leaders a, e, b, p.
-use Rattle.std.specs.Prelude.{◌≡◌, ◌≢◌, ℕ, true, ℤ, pos, ◌≤ℤ◌, ◌<ℤ◌, List, Contains}
+use Rattle.std.specs.Prelude.{◌≡◌, ◌≢◌, ℕ, true, pos, ◌≤ℤ◌, ◌<ℤ◌, List, Contains}
 use Rattle.hs_base.specs.declared.net.Bound.{Bound}
 use Rattle.hs_base.specs.Schedule.{bound}
 use Rattle.hs_base.specs.Reduced.{Table, IsTableOf, leaders, between, dominates, edges_of}

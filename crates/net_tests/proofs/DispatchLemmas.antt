@@ -1,6 +1,6 @@
 -- The small network is the reduced one of its bounds, and nothing but Z is executed in it at 0.
 use Rattle.std.proofs.Common.{◌≡◌, ℕ, zero, suc, ◌<◌, List, [], ◌∷◌, get_or, Some, None, refl, sym, ap, ◌∙◌, subst, arith, rules, pos, inl, inr}
-use Rattle.std.specs.Prelude.{ℤ, negsuc, ◌≤ℤ◌, ◌-ℤ◌, ◌+ℤ◌, nat_eq}
+use Rattle.std.specs.Prelude.{ℤ, negsuc, ◌≤ℤ◌, ◌-ℤ◌, nat_eq}
 use Rattle.std.proofs.lemmas.Int.{ints}
 use Rattle.std.proofs.lemmas.Bool.{cases_Bool, eqb-true}
 use Rattle.hs_base.specs.declared.limits.TheConstants.{LAST}
@@ -12,7 +12,6 @@ use Rattle.hs_base.specs.Reduced.{Table, IsTableOf, IsReducedOf}
 use Rattle.hs_base.specs.Fits.{time_at}
 use Rattle.hs_base.specs.Dispatch.{IsReached}
 use Rattle.net_tests.specs.Samples.{chain}
-use Rattle.dispatcher.specs.State.{State, MayGoOn, MayWait}
 
 -- its tight weights
 abbrev weights : List (List ℤ)
@@ -124,9 +123,3 @@ chain_reached = record {
 
 pub reached_chain : (c : ℕ) (n : Net) → c ≡ 4 → n ≡ chain → IsReached c n (time_at origin) (pos 0)
 reached_chain c n four is = subst (λ (x : Net). IsReached c x (time_at origin) (pos 0)) (sym is) (subst (λ (k : ℕ). IsReached k chain (time_at origin) (pos 0)) (sym four) chain_reached)
-
--- where a tick may be taken, the time may pass up to the next
-pub may_wait : (s t : State) (n : ℤ) → t ≡ s → n ≡ s.tick +ℤ pos 1 → MayGoOn s → MayWait t n
-may_wait s t n same next may =
-    let w : MayWait s (s.tick +ℤ pos 1) = record { some = may.s; fits = record { meets = may.fits.meets; past = may.fits.past; future = may.later } } in
-    subst (λ (x : State). MayWait x n) (sym same) (subst (λ (m : ℤ). MayWait s m) (sym next) w)

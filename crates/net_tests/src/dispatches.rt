@@ -1,10 +1,9 @@
-ghost use Rattle.std.specs.Prelude.{◌≡◌, ◌↔◌, ◌+ℤ◌, ◌≤ℤ◌, pos, length, IfOk, IfSome, IsTrue};
-ghost use Rattle.hs_base.specs.declared.limits.TheConstants.{LAST};
+ghost use Rattle.std.specs.Prelude.{◌≡◌, ◌↔◌, length, IfOk, IsTrue};
 ghost use Rattle.dispatcher.specs.State.{IsOpen};
 
 use crate::chain::{bound, net};
 use dispatcher::Dispatch;
-use hs_base::{Bound, LAST, List, Memory, PointId, Time};
+use hs_base::{Bound, List, Memory, PointId, Time};
 use std::alloc::Global;
 use std::test::Fail;
 
@@ -70,36 +69,12 @@ fn tick(dispatch: &mut Dispatch, before: PointId) -> bool {
     true
 }
 
-/// The next tick, where there is one.
-fn next(dispatch: &Dispatch) -> Option<i64>
-    ensures { IfSome result (λ n. (n ≡ dispatch.now.tick +ℤ pos 1) × (n ≤ℤ LAST)) }
-{
-    if dispatch.now() < LAST {
-        return Some(dispatch.now() + 1);
-    }
-    None
-}
-
-/// Lets one tick pass, where it may.
-#[tactic(auto, using(crate::proofs::DispatchLemmas::may_wait))]
-fn wait(dispatch: &mut Dispatch) -> bool {
-    let Some(next) = next(dispatch) else {
-        return false;
-    };
-    if !dispatch.may_tick() {
-        return false;
-    }
-    dispatch.wait_until(next);
-    true
-}
-
 /// Whether point 1 is executed at 1, and point 2 is held by it at 2.
 fn fires_the_first(dispatch: &mut Dispatch) -> bool {
     let barred = bar(dispatch, PointId(1)) == Some(bound(1, 0, -1));
     let fired = tick(dispatch, PointId(1)) && fire(dispatch, PointId(1));
-    let limit = dispatch.limit() == 4;
-    let held = wait(dispatch) && bar(dispatch, PointId(2)) == Some(bound(2, 1, -2));
-    barred && fired && limit && held && dispatch.now() == 2
+    let held = tick(dispatch, PointId(2)) && bar(dispatch, PointId(2)) == Some(bound(2, 1, -2));
+    barred && fired && held && dispatch.now() == 2
 }
 
 /// Whether the observed point is waited for at 4, and point 2 is due with it.

@@ -14,8 +14,9 @@ use Rattle.hs_base.specs.Points.{count}
 use Rattle.hs_base.specs.Bounds.{bounds_of}
 use Rattle.hs_base.specs.Schedule.{Schedule}
 use Rattle.hs_base.specs.Fits.{Times, Fits, put, EachOnce, time_at}
-use Rattle.hs_machine.specs.State.{now_of, times_of, plan_of, hands_over, executes, is_tick, executed, count_at, bounds_at, tick_at, FitsState}
-use Rattle.hs_machine.specs.Machine.{Event, tick, fire, report, handover, Reply, done, observed, not_observed, over, no_net, no_point, already, FireReply, HandoverReply, PointReply, EventReply, MayFire, MayGoOn, Replies, IsLeftBy, base_of}
+use Rattle.hs_base.specs.Moments.{Moment, MayFire, MayGoOn}
+use Rattle.hs_machine.specs.State.{now_of, times_of, plan_of, hands_over, executes, is_tick, executed, count_at, bounds_at, tick_at, moment_of, FitsState}
+use Rattle.hs_machine.specs.Machine.{Event, tick, fire, report, handover, Reply, done, observed, not_observed, over, no_net, no_point, already, OwnReply, HandoverReply, PointReply, EventReply, Replies, IsLeftBy, base_of}
 use Rattle.hs_machine.specs.Run.{MayAdd, Run}
 use Rattle.base_laws.proofs.ListLemmas.{snoc_induction}
 use Rattle.run_laws.proofs.StateLemmas.{times_executed, now_of-push, plan_kept, plan_handed, times_kept, executed-put, EachOnce-push}
@@ -30,32 +31,32 @@ pub event_reply : (m : Mission) (h : List Entry) (event : Event) → Replies m h
 event_reply m h event lawful = otherwise _ _ _ (otherwise _ _ _ lawful (λ (e : done ≡ over). cc)) (λ (e : done ≡ no_net). cc)
 
 -- a reply Done about a point: it was not executed before, and the rest holds
-pub point_new : (m : Mission) (h : List Entry) (x : ℕ) (P : Type 0) → PointReply m h x done P → executed h x ≡ None
-point_new m h x P reply = inside (executed h x) (otherwise _ _ _ reply (λ (e : done ≡ no_point). cc))
+pub point_new : (w : Moment) (x : ℕ) (P : Type 0) → PointReply w x done P → w.at x ≡ None
+point_new w x P reply = inside (w.at x) (otherwise _ _ _ reply (λ (e : done ≡ no_point). cc))
   where
     inside : (o : Option ℤ) → MatchOption o P (λ at. done ≡ already at) → o ≡ None
     inside None r = refl
     inside (Some at) r = absurd (cc)
 
-pub point_rest : (m : Mission) (h : List Entry) (x : ℕ) (P : Type 0) → PointReply m h x done P → P
-point_rest m h x P reply = inside (executed h x) (otherwise _ _ _ reply (λ (e : done ≡ no_point). cc))
+pub point_rest : (w : Moment) (x : ℕ) (P : Type 0) → PointReply w x done P → P
+point_rest w x P reply = inside (w.at x) (otherwise _ _ _ reply (λ (e : done ≡ no_point). cc))
   where
     inside : (o : Option ℤ) → MatchOption o P (λ at. done ≡ already at) → P
     inside None r = r
     inside (Some at) r = absurd (cc)
 
 -- a Fire that is answered Done
-pub fired : (m : Mission) (h : List Entry) (x : ℕ) → Replies m h (fire x) done → (executed h x ≡ None) × MayFire m h x
+pub fired : (m : Mission) (h : List Entry) (x : ℕ) → Replies m h (fire x) done → (executed h x ≡ None) × MayFire (moment_of m h) x
 fired m h x lawful =
     let reply = event_reply m h (fire x) lawful in
-    let r : FireReply m h x done = otherwise _ _ _ (point_rest m h x _ reply) (λ (e : done ≡ observed). cc) in
-    (point_new m h x _ reply, r.1)
+    let r : OwnReply (moment_of m h) x done = otherwise _ _ _ (point_rest (moment_of m h) x _ reply) (λ (e : done ≡ observed). cc) in
+    (point_new (moment_of m h) x _ reply, r.1)
 
 -- a Report that is answered Done
-pub reported : (m : Mission) (h : List Entry) (x : ℕ) → Replies m h (report x) done → (executed h x ≡ None) × MayFire m h x
+pub reported : (m : Mission) (h : List Entry) (x : ℕ) → Replies m h (report x) done → (executed h x ≡ None) × MayFire (moment_of m h) x
 reported m h x lawful =
     let reply = event_reply m h (report x) lawful in
-    (point_new m h x _ reply, otherwise _ _ _ (point_rest m h x _ reply) (λ (e : done ≡ not_observed). cc))
+    (point_new (moment_of m h) x _ reply, otherwise _ _ _ (point_rest (moment_of m h) x _ reply) (λ (e : done ≡ not_observed). cc))
 
 -- a point that an entry executes was not executed before
 pub fresh : (m : Mission) (h : List Entry) (d : Deed) (x : PointId) (event : Event) (reply : Reply) → Replies m h event reply → IsLeftBy m d event reply → executes d ≡ Some x → executed h x.0 ≡ None
@@ -132,7 +133,7 @@ idle m h e no_plan no_time no_tick had some =
     record { s = f.s; fits = fits_same m _ _ _ _ _ _ f.s (sym same) (λ x. ap (λ ts. time_at ts x) (times_kept h e no_time)) (sym clock) f.fits }
 
 -- an entry of a point that is executed now
-executes_now : (m : Mission) (h : List Entry) (e : Entry) (x : PointId) → hands_over e.deed ≡ None → executes e.deed ≡ Some x → is_tick e.deed ≡ false → executed h x.0 ≡ None → MayFire m h x.0 → HasFit m (h ++ e ∷ [])
+executes_now : (m : Mission) (h : List Entry) (e : Entry) (x : PointId) → hands_over e.deed ≡ None → executes e.deed ≡ Some x → is_tick e.deed ≡ false → executed h x.0 ≡ None → MayFire (moment_of m h) x.0 → HasFit m (h ++ e ∷ [])
 executes_now m h e x no_plan is no_tick free may =
     let clock : now_of (h ++ e ∷ []) ≡ now_of h = now_of-push h e ∙ ap (λ b. now_of h + cond b 1 0) no_tick ∙ add-zero (now_of h) in
     record { s = may.s; fits = fits_same m _ _ _ _ _ _ may.s (sym (plan_kept h e no_plan)) (λ y. executed-put h e x y is free) (sym clock) (after_point m h may.s x.0 may.fits may.here) }
@@ -142,7 +143,7 @@ fit-push : (m : Mission) (h : List Entry) (by : ℕ) (d : Deed) (event : Event) 
 fit-push m h by Tick event reply lawful left had some =
     let e : Entry = record { by = by; deed = Tick } in
     let here : Replies m h tick done = rw (left.0, left.1) at lawful in
-    let may : MayGoOn m h = event_reply m h tick here in
+    let may : MayGoOn (moment_of m h) = event_reply m h tick here in
     record { s = may.s; fits = fits_same m _ _ _ _ _ _ may.s (sym (plan_kept h e refl)) (λ x. ap (λ ts. time_at ts x) (times_kept h e refl)) (sym (now_of-push h e)) (after_tick m h may.s may.fits may.later) }
 fit-push m h by (Fire x) event reply lawful left had some =
     let here : Replies m h (fire x.0) done = rw (left.0, left.1) at lawful in

@@ -1,5 +1,5 @@
 use Rattle.std.proofs.Common.{◌≡◌, ◌∙◌, sym, refl, arith, w64, FitsSigned, of_z, Some, None}
-use Rattle.std.specs.Prelude.{ℤ, ◌+ℤ◌, true}
+use Rattle.std.specs.Prelude.{◌+ℤ◌}
 use Rattle.std.proofs.lemmas.Int.{ints, to_z-of_z}
 use Rattle.net_laws.proofs.BetweenLemmas.{eq_int_eq}
 use Rattle.dispatcher.specs.Marks.{leader_time}

@@ -1,5 +1,5 @@
 use Rattle.std.proofs.Common.{refl, arith, w64, FitsSigned}
-use Rattle.std.specs.Prelude.{ℤ, ◌+ℤ◌}
+use Rattle.std.specs.Prelude.{◌+ℤ◌}
 use Rattle.std.proofs.lemmas.Int.{ints, to_z-of_z}
 use Rattle.dispatcher.proofs.waits.wait.Goals as goal
 

@@ -9,7 +9,8 @@ use Rattle.hs_base.specs.Dispatch.{IsReached}
 use Rattle.hs_machine.specs.State.{times_of, executed}
 use Rattle.dispatcher.specs.State.{State, begun}
 use Rattle.plan_check.specs.Planned.{Planned}
-use Rattle.horizon_handover.specs.Offers.{IsDispatchOf, IsLast}
+use Rattle.exec_laws.specs.Follows.{Follows}
+use Rattle.horizon_handover.specs.Offers.{beginning, IsLast}
 use Rattle.horizon_handover.proofs.StartLemmas.{parts_of, start_reached, again, start_dispatch, flags_size}
 use Rattle.horizon_handover.proofs.preparing.prepare.Goals as goal
 
@@ -53,5 +54,5 @@ invariant_of-result c =
       last = subst (λ (x : Plan). IsLast x.extensions c.in_ok-extension.extension) c.plan-3.ensures.plan c.in_ok-extension.ensures;
       net = c.in_ok-kept.ensures ∙ sym (ap (λ (s : State). s.net) d);
       dist = k.dist;
-      dispatch = subst (IsDispatchOf p (executed []) (pos 0)) (sym d) (start_dispatch p k.checked net k.net);
+      dispatch = subst (Follows (beginning p)) (sym d) (start_dispatch p k.checked net k.net);
     }

@@ -1,9 +1,10 @@
 use Rattle.std.proofs.Common.{◌≡◌, ◌∙◌, ap, sym, subst, arith, pos, w64, FitsSigned, to_z, of_z, get_or}
-use Rattle.std.specs.Prelude.{ℤ, ◌+ℤ◌, ◌-ℤ◌, ◌<ℤ◌}
+use Rattle.std.specs.Prelude.{◌+ℤ◌, ◌-ℤ◌, ◌<ℤ◌}
 use Rattle.std.proofs.lemmas.Int.{ints, to_z-of_z}
 use Rattle.hs_base.specs.declared.net.Group.{Group}
 use Rattle.net_laws.proofs.BetweenLemmas.{int_le-true, int_le-false}
-use Rattle.dispatcher.specs.State.{State, IsLawful, Bars}
+use Rattle.hs_base.specs.Moments.{Bars}
+use Rattle.dispatcher.specs.State.{State, IsLawful, moment}
 use Rattle.dispatcher.specs.Edges.{IsSetAt}
 use Rattle.dispatcher.proofs.InsideLemmas.{tick_fits}
 use Rattle.dispatcher.proofs.FiringLemmas.{set_within, known_within, next_within, unset_bars, late_bars}
@@ -58,7 +59,7 @@ returns-in-None c =
     let down : c.args.next.most <ℤ pos 0 = omega (arith, ints, low, most) in
     let read : c.index.result.now ≡ get_or s.net.groups c.args.next.group c.index.result.now = c.index.ensures ∙ ap (λ (z : State). get_or z.net.groups c.args.next.group c.index.result.now) c.self.view_is in
     let b = unset_bars s law c.args.p.0 c.requires.open c.args.group c.requires.place c.args.next c.requires.next down c.index.result.now (sym (c.in-None.ensures c.index.result.now)) in
-    rw most (subst (λ (z : Group). Bars s c.args.p.0 (record { from = c.args.p; to = z.leader; most = c.args.next.most })) (sym read) b)
+    rw most (subst (λ (z : Group). Bars (moment s) c.args.p.0 (record { from = c.args.p; to = z.leader; most = c.args.next.most })) (sym read) b)
 
 pub returns-else-self-at : goal.returns-else-self-at
 returns-else-self-at c =
@@ -84,4 +85,4 @@ returns-else-self-at c =
     let late : s.tick <ℤ (c.in-Some.at -ℤ c.args.next.most) = omega (arith, ints, test, less, tick) in
     let same : to_z w64 (of_z w64 (to_z w64 (of_z w64 c.args.next.most) +ℤ to_z w64 (of_z w64 m.offset))) ≡ c.args.next.most +ℤ m.offset = rw (most, to_z-of_z w64 m.offset f) (to_z-of_z w64 (c.args.next.most +ℤ m.offset) e) in
     let b = late_bars s law c.args.p.0 c.requires.open c.args.group c.requires.place c.args.next c.requires.next down c.in-Some.at is_set late m known in
-    subst (λ z. Bars s c.args.p.0 (record { from = c.args.p; to = m.point; most = z })) (sym same) b
+    subst (λ z. Bars (moment s) c.args.p.0 (record { from = c.args.p; to = m.point; most = z })) (sym same) b

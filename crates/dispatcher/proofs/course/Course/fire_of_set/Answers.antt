@@ -1,7 +1,8 @@
 use Rattle.std.proofs.Common.{◌≡◌, ◌∙◌, ap, sym, subst, arith, w64, FitsSigned, to_z, of_z}
-use Rattle.std.specs.Prelude.{ℤ, ◌+ℤ◌, ◌-ℤ◌}
+use Rattle.std.specs.Prelude.{◌+ℤ◌, ◌-ℤ◌}
 use Rattle.std.proofs.lemmas.Int.{ints, to_z-of_z}
-use Rattle.dispatcher.specs.State.{State, IsLawful, Bars}
+use Rattle.hs_base.specs.Moments.{Bars}
+use Rattle.dispatcher.specs.State.{State, IsLawful, moment}
 use Rattle.dispatcher.proofs.InsideLemmas.{tick_fits}
 use Rattle.dispatcher.proofs.FiringLemmas.{set_within, place_within, known_within, same_bits, set_may, set_bars}
 use Rattle.dispatcher.proofs.course.Course.fire_of_set.Goals as goal
@@ -55,4 +56,4 @@ returns c =
     let other : c.args.at +ℤ c.args.place.offset ≡ s.tick → ⊥ = λ e. c.if-self-at.false (rw (to_z-of_z w64 c.args.at fa, to_z-of_z w64 c.args.place.offset g) (ap (of_z w64) (ap (λ (z : State). z.tick) c.self.view_is ∙ sym e))) in
     let same : to_z w64 (of_z w64 (to_z w64 (of_z w64 m.offset) -ℤ to_z w64 (of_z w64 c.args.place.offset))) ≡ m.offset -ℤ c.args.place.offset = rw (to_z-of_z w64 m.offset f, to_z-of_z w64 c.args.place.offset g) (to_z-of_z w64 (m.offset -ℤ c.args.place.offset) h) in
     let b = set_bars s law c.args.p.0 c.requires.open c.args.place c.requires.place c.args.at c.requires.set m (c.known_in-known.ensures c.args.at c.requires.set) other in
-    subst (λ z. Bars s c.args.p.0 (record { from = c.args.p; to = m.point; most = z })) (sym same) b
+    subst (λ z. Bars (moment s) c.args.p.0 (record { from = c.args.p; to = m.point; most = z })) (sym same) b

@@ -9,7 +9,8 @@ use Rattle.net_laws.proofs.ListLemmas.{has_from, contains_from}
 use Rattle.local_propagate.specs.declared.neighbours.Neighbour.{Neighbour}
 use Rattle.local_propagate.specs.Joined.{after_of, leaders_of, leader_at}
 use Rattle.dispatcher.specs.declared.places.Place.{Place}
-use Rattle.dispatcher.specs.State.{State, IsLawful, Bars}
+use Rattle.hs_base.specs.Moments.{Bars}
+use Rattle.dispatcher.specs.State.{State, IsLawful, moment}
 use Rattle.dispatcher.specs.Places.{StandsAt}
 use Rattle.dispatcher.specs.Edges.{LetsFire}
 use Rattle.dispatcher.proofs.FiringLemmas.{place_within, same_bits, leader_bars, leads_to, all_let}
@@ -33,8 +34,8 @@ returns-then-place-ne0 c =
     let same : to_z w64 (of_z w64 (pos 0 -ℤ to_z w64 (of_z w64 c.args.place.offset))) ≡ pos 0 -ℤ c.args.place.offset = rw (to_z-of_z w64 c.args.place.offset g) (to_z-of_z w64 (pos 0 -ℤ c.args.place.offset) h) in
     let read : c.index.result.now ≡ get_or s.net.groups c.args.place.group c.index.result.now = c.index.ensures ∙ ap (λ (z : State). get_or z.net.groups c.args.place.group c.index.result.now) c.self.view_is in
     let b = leader_bars s law c.args.p.0 c.requires.open c.args.place c.requires.place c.requires.unset c.index.result.now (λ e. c.if-place-ne0.true (ap (of_z w64) e)) in
-    subst (λ z. Bars s c.args.p.0 (record { from = c.args.p; to = c.index.result.now.leader; most = z })) (sym same)
-    (subst (λ (z : Group). Bars s c.args.p.0 (record { from = c.args.p; to = z.leader; most = pos 0 -ℤ c.args.place.offset })) (sym read) b)
+    subst (λ z. Bars (moment s) c.args.p.0 (record { from = c.args.p; to = c.index.result.now.leader; most = z })) (sym same)
+    (subst (λ (z : Group). Bars (moment s) c.args.p.0 (record { from = c.args.p; to = z.leader; most = pos 0 -ℤ c.args.place.offset })) (sym read) b)
 
 -- the point stands at its leader
 at_leader : (s : State) → IsLawful s → (x : ℕ) (p : Place) → StandsAt s.net x p → of_z w64 p.offset ≡ 0 → StandsAt s.net x (record { group = p.group; offset = pos 0 })

@@ -3,7 +3,8 @@ use Rattle.std.specs.Prelude.{◌-ℤ◌}
 use Rattle.std.proofs.lemmas.Int.{ints, to_z-of_z}
 use Rattle.std.proofs.lemmas.List.{get_or_read}
 use Rattle.hs_base.specs.Schedule.{bound}
-use Rattle.dispatcher.specs.State.{State, IsLate, IsLawful, is_observed, points, time_in}
+use Rattle.hs_base.specs.Moments.{IsLate}
+use Rattle.dispatcher.specs.State.{State, IsLawful, is_observed, points, time_in, moment}
 use Rattle.dispatcher.specs.Kept.{state_of}
 use Rattle.dispatcher.proofs.KeptLemmas.{none_from}
 use Rattle.dispatcher.proofs.InsideLemmas.{tick_fits}
@@ -51,4 +52,4 @@ returns-in-Some-index c =
     let most : there.tick -ℤ h.at ≡ to_z w64 (of_z w64 (to_z w64 (of_z w64 d.tick) -ℤ to_z w64 (of_z w64 c.in-Some-index.at))) =
     ap (λ z. there.tick -ℤ z) same_at ∙ ap (λ (z : State). z.tick -ℤ c.in-Some-index.at) (sym c.self.view_is)
     ∙ sym (rw (to_z-of_z w64 d.tick (tick_fits d k), to_z-of_z w64 c.in-Some-index.at f) (to_z-of_z w64 (d.tick -ℤ c.in-Some-index.at) g)) in
-    subst (λ z. IsLate there (bound q x z)) most late
+    subst (λ z. IsLate (moment there) (bound q x z)) most late

@@ -1,7 +1,8 @@
 use Rattle.std.proofs.Common.{subst, arith, pos, w64, FitsSigned, to_z, of_z, rules, ◌↔◌}
-use Rattle.std.specs.Prelude.{ℤ, ◌<ℤ◌}
+use Rattle.std.specs.Prelude.{◌<ℤ◌}
 use Rattle.std.proofs.lemmas.Int.{ints, clamps, to_z-of_z}
-use Rattle.dispatcher.specs.State.{State, MayGoOn}
+use Rattle.hs_base.specs.Moments.{MayGoOn}
+use Rattle.dispatcher.specs.State.{State, moment}
 use Rattle.dispatcher.specs.Kept.{state_of}
 use Rattle.dispatcher.proofs.KeptLemmas.{Leasts, later_goes_on, goes_on_later}
 use Rattle.dispatcher.proofs.course.Course.limit.Goals as goal
@@ -27,5 +28,5 @@ returns c =
     let is_r = to_z-of_z w64 c.min.result fit_r in
     let v = c.min.ensures.value in
     let low = c.min.ensures.self_bound in
-    let both : (MayGoOn s ↔ (s.tick <ℤ to_z w64 (of_z w64 c.min.result))) = (λ m. let f = forth m in omega (arith, ints, clamps, f.0, f.1, v), λ m. back (omega (arith, ints, clamps, m, v)) (omega (arith, ints, clamps, m, v))) in
-    subst (λ (z : State). MayGoOn z ↔ (z.tick <ℤ to_z w64 (of_z w64 c.min.result))) c.self.view_is both
+    let both : (MayGoOn (moment s) ↔ (s.tick <ℤ to_z w64 (of_z w64 c.min.result))) = (λ m. let f = forth m in omega (arith, ints, clamps, f.0, f.1, v), λ m. back (omega (arith, ints, clamps, m, v)) (omega (arith, ints, clamps, m, v))) in
+    subst (λ (z : State). MayGoOn (moment z) ↔ (z.tick <ℤ to_z w64 (of_z w64 c.min.result))) c.self.view_is both

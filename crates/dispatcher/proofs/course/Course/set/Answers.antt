@@ -10,7 +10,8 @@ use Rattle.local_propagate.specs.Windows.{time_of}
 use Rattle.local_propagate.specs.declared.windows.TheConstants.{NEVER}
 use Rattle.dispatcher.specs.declared.course.Course.TheInside.{Inside}
 use Rattle.dispatcher.specs.declared.places.Place.{Place}
-use Rattle.dispatcher.specs.State.{IsOpen, MayFire}
+use Rattle.hs_base.specs.Moments.{MayFire}
+use Rattle.dispatcher.specs.State.{IsOpen, moment}
 use Rattle.dispatcher.specs.Places.{ArePlaces, place_at, no_place, IsNearLeader}
 use Rattle.dispatcher.specs.Index.{numbers_of, waited}
 use Rattle.dispatcher.specs.Kept.{state_of, IsKept}
@@ -48,7 +49,7 @@ wait_group-requires-clause-near c =
     let k = c.self.invariant in
     let x = c.args.p.0 in
     let is_open : IsOpen (state_of d) x = subst (λ s. IsOpen s x) (sym c.self.view_is) c.requires.open in
-    let may : MayFire (state_of d) x = subst (λ s. MayFire s x) (sym c.self.view_is) c.requires.may in
+    let may : MayFire (moment (state_of d)) x = subst (λ s. MayFire (moment s) x) (sym c.self.view_is) c.requires.may in
     let pl = place_read d k x c.index-place.result.now is_open.below c.index-place.ensures in
     let read : c.index.result.now ≡ get_or d.net.groups (place_at d.places.items x).group c.index.result.now = c.index.ensures ∙ ap (λ (p : Place). get_or d.net.groups p.group c.index.result.now) pl in
     let near = near_members (state_of d) k.state d.windows d.places.items (numbers_of d.known.items) d.until k.set k.places k.known k.waits x is_open may (ap (λ (p : Place). time_of d.windows p.group) (sym pl) ∙ sym c.time.ensures ∙ none_from c.time.result c.if-is_none.ensures) c.index.result.now in
@@ -77,7 +78,7 @@ invariant_of-self c =
     let s = state_of d in
     let x = c.args.p.0 in
     let is_open : IsOpen s x = subst (λ s. IsOpen s x) (sym c.self.view_is) c.requires.open in
-    let may : MayFire s x = subst (λ s. MayFire s x) (sym c.self.view_is) c.requires.may in
+    let may : MayFire (moment s) x = subst (λ s. MayFire (moment s) x) (sym c.self.view_is) c.requires.may in
     let pl = place_read d k x c.index-place.result.now is_open.below c.index-place.ensures in
     let tk : to_z w64 (of_z w64 d.tick) ≡ d.tick = to_z-of_z w64 d.tick (tick_fits d k) in
     let lawful = fired_lawful s k.state d.windows d.places.items (numbers_of d.known.items) d.until k.set k.places k.known k.waits x is_open may in

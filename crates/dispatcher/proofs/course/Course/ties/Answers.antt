@@ -4,7 +4,8 @@ use Rattle.std.proofs.lemmas.Int.{ints}
 use Rattle.std.proofs.lemmas.Bool.{eq-eqb, eqb-true}
 use Rattle.std.proofs.lemmas.List.{get_or_read}
 use Rattle.dispatcher.specs.declared.places.Place.{Place}
-use Rattle.dispatcher.specs.State.{State, IsTiedTo, is_observed, time_in, points}
+use Rattle.hs_base.specs.Moments.{IsTied}
+use Rattle.dispatcher.specs.State.{State, is_observed, time_in, points, moment}
 use Rattle.dispatcher.specs.Places.{place_at}
 use Rattle.dispatcher.specs.Kept.{state_of}
 use Rattle.dispatcher.proofs.KeptLemmas.{none_from}
@@ -35,7 +36,7 @@ returns-then-here-there c =
     let none : time_in s y ≡ None = sym (get_or_read d.times.items y c.index-else-not-index.result.now iy c.index-else-not-index.ensures None) ∙ none_from c.index-else-not-index.result.now (sym c.if-is_some.ensures) in
     let other : y ≢ x = λ e. c.if-x-y.false (sym e) in
     let group : (place_at d.places.items x).group ≡ (place_at d.places.items y).group = ap (λ (z : Place). z.group) (sym is_p) ∙ c.if-here-there.true ∙ ap (λ (z : Place). z.group) is_q in
-    subst (λ (z : State). (IsTrue (nat_eq (of_z w64 p.offset) (of_z w64 q.offset)) → IsTiedTo z x y) × (IsTiedTo z x y → IsTrue (nat_eq (of_z w64 p.offset) (of_z w64 q.offset)))) c.self.view_is (
+    subst (λ (z : State). (IsTrue (nat_eq (of_z w64 p.offset) (of_z w64 q.offset)) → IsTied (moment z) x y) × (IsTied (moment z) x y → IsTrue (nat_eq (of_z w64 p.offset) (of_z w64 q.offset)))) c.self.view_is (
       λ h.
           let same : p.offset ≡ q.offset = same_bits p.offset q.offset fp fq (eqb-true _ _ h) in
           tied_from s k.state d.places.items k.places x y ix iy watched none other group (ap (λ (z : Place). z.offset) (sym is_p) ∙ same ∙ ap (λ (z : Place). z.offset) is_q),
@@ -59,6 +60,6 @@ returns-else-here-there c =
     let is_q = place_read d k y q iy c.index-there.ensures in (
       λ h. absurd (c.if-here-there.false (eqb-true _ _ h)),
       λ tied.
-          let r = tied_to s k.state d.places.items k.places x y ix iy (subst (λ (z : State). IsTiedTo z x y) (sym c.self.view_is) tied) in
+          let r = tied_to s k.state d.places.items k.places x y ix iy (subst (λ (z : State). IsTied (moment z) x y) (sym c.self.view_is) tied) in
           absurd (c.if-here-there.false (ap (λ (z : Place). z.group) is_p ∙ r.0 ∙ ap (λ (z : Place). z.group) (sym is_q))),
     )
