@@ -1,17 +1,19 @@
 -- What each command makes of a good input.
-use Rattle.std.proofs.Common.{◌≡◌, ℕ, List, length, refl, ap, ◌∙◌, subst, inl, inr}
+use Rattle.std.proofs.Common.{◌≡◌, ◌≢◌, ℕ, List, [], length, refl, sym, ap, ◌∙◌, subst, arith, inl, inr}
 use Rattle.hs_texts.specs.declared.ast.Ast.{Ast}
 use Rattle.hs_base.specs.declared.mission.Mission.{Mission}
 use Rattle.hs_base.specs.declared.plan.Extension.{Extension}
 use Rattle.hs_texts.specs.CanonicalText.{canonical}
 use Rattle.hs_base.specs.Checked.{Checked}
 use Rattle.hs_texts.specs.ClosingText.{checked_line}
+use Rattle.hs_machine.specs.State.{plan_of}
 use Rattle.hs_texts.specs.MissionSpelling.{IsMissionRefusal, IsRefusalOf}
+use Rattle.run_laws.proofs.CheckedLemmas.{run_checked}
 use Rattle.text_laws.proofs.RefusalLemmas.{spelled_one, spelled_or_refused}
 use Rattle.domain_check.proofs.RuleLemmas.{not_meant}
 use Rattle.commands.specs.Inputs.{IsGiven, IsRefused}
 use Rattle.commands.specs.Prints.{IsAccepted, Prints}
-use Rattle.commands.specs.Checks.{Judges, Checks}
+use Rattle.commands.specs.Checks.{IsFaulty, Judges, Checks}
 use Rattle.commands.specs.Sims.{IsPlain, IsFlown, Runs, Sims}
 use Rattle.commands.specs.declared.status.Status.{Status}
 use Rattle.commands.specs.declared.status.Status.TheVariants.{Done, Usage, Refused, NoPlan, Budget, ReadFault, WriteFault, NoMemory, PlanRefused}
@@ -55,6 +57,24 @@ sound bytes text m es status g c (inl j) =
     judged_sound m es status text c (subst (λ (x : Mission). Judges x es status text) e.0 (subst (λ (l : List Extension). Judges j.mission l status text) e.1 j.judges))
 sound bytes text m es status g c (inr r) = absurd (given_or_refused bytes m es r.1.refusal g r.1.why)
 
+judged_faulty : (m : Mission) (es : List Extension) (status : Status) (text : List ℕ) → (Checked m es → ⊥) → Judges m es status text → (status ≡ PlanRefused) × IsFaulty m es text
+judged_faulty m es Done text breaks j = absurd (breaks j.checked)
+judged_faulty m es PlanRefused text breaks j = (refl, j)
+judged_faulty m es Usage text breaks j = absurd j
+judged_faulty m es Refused text breaks j = absurd j
+judged_faulty m es NoPlan text breaks j = absurd j
+judged_faulty m es Budget text breaks j = absurd j
+judged_faulty m es ReadFault text breaks j = absurd j
+judged_faulty m es WriteFault text breaks j = absurd j
+judged_faulty m es NoMemory text breaks j = absurd j
+
+-- of a plan that breaks a rule the first fault is told
+pub faulted : (bytes text : List ℕ) (m : Mission) (es : List Extension) (status : Status) → IsGiven bytes m es → (Checked m es → ⊥) → Checks bytes status text → (status ≡ PlanRefused) × IsFaulty m es text
+faulted bytes text m es status g breaks (inl j) =
+    let e = given_one bytes j.mission m j.plan es j.given g in
+    judged_faulty m es status text breaks (subst (λ (x : Mission). Judges x es status text) e.0 (subst (λ (l : List Extension). Judges j.mission l status text) e.1 j.judges))
+faulted bytes text m es status g breaks (inr r) = absurd (given_or_refused bytes m es r.1.refusal g r.1.why)
+
 run_flown : (m : Mission) (es : List Extension) (status : Status) (text : List ℕ) → IsPlain m → length es ≡ 1 → Checked m es → Runs m es status text → (status ≡ Done) × IsFlown m es text
 run_flown m es Done text p one c r = (refl, r)
 run_flown m es PlanRefused text p one c r = elim r.cause [ inl k ↦ absurd (k.other one) | inr k ↦ absurd (checked_or_faulty m es text c k.1) ]
@@ -66,13 +86,38 @@ run_flown m es ReadFault text p one c r = absurd r
 run_flown m es WriteFault text p one c r = absurd r
 run_flown m es NoMemory text p one c r = absurd r
 
--- a plain mission is flown by its checked plan
-pub flown : (nodes : ℕ) (bytes text : List ℕ) (m : Mission) (es : List Extension) (status : Status) → IsGiven bytes m es → IsPlain m → length es ≡ 1 → Checked m es → Sims nodes bytes status text → (status ≡ Done) × IsFlown m es text
-flown nodes bytes text m es status g p one c (inl (inl r)) =
+-- a plan that was flown is checked
+flown_checked : (m : Mission) (es : List Extension) (text : List ℕ) → length es ≡ 1 → IsFlown m es text → Checked m es
+flown_checked m es text one f =
+    let some : plan_of f.history ≢ [] = λ (e : plan_of f.history ≡ []). absurd (omega (arith, one, ap length (sym f.flight.plan ∙ e))) in
+    subst (Checked m) f.flight.plan (run_checked m f.history f.flight.run some)
+
+run_faulty : (m : Mission) (es : List Extension) (status : Status) (text : List ℕ) → IsPlain m → length es ≡ 1 → (Checked m es → ⊥) → Runs m es status text → (status ≡ PlanRefused) × IsFaulty m es text
+run_faulty m es Done text p one breaks r = absurd (breaks (flown_checked m es text one r))
+run_faulty m es PlanRefused text p one breaks r = elim r.cause [ inl k ↦ absurd (k.other one) | inr k ↦ (refl, k.1) ]
+run_faulty m es Refused text p one breaks r = absurd (r.0 p)
+run_faulty m es Usage text p one breaks r = absurd r
+run_faulty m es NoPlan text p one breaks r = absurd r
+run_faulty m es Budget text p one breaks r = absurd r
+run_faulty m es ReadFault text p one breaks r = absurd r
+run_faulty m es WriteFault text p one breaks r = absurd r
+run_faulty m es NoMemory text p one breaks r = absurd r
+
+-- what `sim` makes of a mission with a plan for it
+run_comes : (nodes : ℕ) (bytes text : List ℕ) (m : Mission) (es : List Extension) (status : Status) → IsGiven bytes m es → Sims nodes bytes status text → Runs m es status text
+run_comes nodes bytes text m es status g (inl (inl r)) =
     let e = given_one bytes r.mission m r.plan es r.given g in
-    run_flown m es status text p one c (subst (λ (x : Mission). Runs x es status text) e.0 (subst (λ (l : List Extension). Runs r.mission l status text) e.1 r.runs))
-flown nodes bytes text m es status g p one c (inl (inr u)) = absurd (given_or_alone bytes m u.mission u.used es g u.front u.ends)
-flown nodes bytes text m es status g p one c (inr r) = elim r.1.why [
+    subst (λ (x : Mission). Runs x es status text) e.0 (subst (λ (l : List Extension). Runs r.mission l status text) e.1 r.runs)
+run_comes nodes bytes text m es status g (inl (inr u)) = absurd (given_or_alone bytes m u.mission u.used es g u.front u.ends)
+run_comes nodes bytes text m es status g (inr r) = elim r.1.why [
   | inl f ↦ absurd (in_front_or_refused bytes m g.used r.1.refusal g.mission f)
   | inr n ↦ absurd (behind_or_refused bytes m es r.1.refusal g n.behind)
 ]
+
+-- a plain mission is flown by its checked plan
+pub flown : (nodes : ℕ) (bytes text : List ℕ) (m : Mission) (es : List Extension) (status : Status) → IsGiven bytes m es → IsPlain m → length es ≡ 1 → Checked m es → Sims nodes bytes status text → (status ≡ Done) × IsFlown m es text
+flown nodes bytes text m es status g p one c s = run_flown m es status text p one c (run_comes nodes bytes text m es status g s)
+
+-- a faulty plan for a plain mission is told its fault, and not flown
+pub unflown : (nodes : ℕ) (bytes text : List ℕ) (m : Mission) (es : List Extension) (status : Status) → IsGiven bytes m es → IsPlain m → length es ≡ 1 → (Checked m es → ⊥) → Sims nodes bytes status text → (status ≡ PlanRefused) × IsFaulty m es text
+unflown nodes bytes text m es status g p one breaks s = run_faulty m es status text p one breaks (run_comes nodes bytes text m es status g s)

@@ -16,10 +16,10 @@ ghost use Rattle.commands.specs.Inputs.{IsGiven, IsWhole};
 ghost use Rattle.commands.specs.Plans.{IsNetText, IsPlanText, Nets, Plans};
 ghost use Rattle.commands.specs.Searches.{IsToldOf};
 ghost use Rattle.commands.specs.Prints.{IsAccepted, Prints};
-ghost use Rattle.commands.specs.Checks.{IsFlaw, Checks};
+ghost use Rattle.commands.specs.Checks.{IsFlaw, IsFaulty, Checks};
 ghost use Rattle.commands.specs.Sims.{IsPlain, IsFlown, Sims};
 ghost use Rattle.commands.specs.declared.status.Status.{Status as StatusOf};
-ghost use Rattle.commands.specs.declared.status.Status.TheVariants.{Done};
+ghost use Rattle.commands.specs.declared.status.Status.TheVariants.{Done, PlanRefused};
 
 /// The text of an accepted mission is printed.
 pub fn an_accepted_mission_is_printed()
@@ -35,6 +35,13 @@ pub fn a_checked_plan_is_sound()
 /// follows it.
 pub fn a_plain_mission_is_flown()
     ensures { (nodes : ℕ) (bytes text : List ℕ) (m : Mission) (es : List Extension) (status : StatusOf) → IsGiven bytes m es → IsPlain m → length es ≡ 1 → Checked m es → Sims nodes bytes status text → (status ≡ Done) × IsFlown m es text }
+{}
+
+/// A plan that breaks a rule is told its first fault, with status 11: under `check`, and under `sim`
+/// where it has one extension and is for a mission of one horizon without devices. It is not flown.
+pub fn a_faulty_plan_is_told_its_fault()
+    ensures checks { (bytes text : List ℕ) (m : Mission) (es : List Extension) (status : StatusOf) → IsGiven bytes m es → (Checked m es → ⊥) → Checks bytes status text → (status ≡ PlanRefused) × IsFaulty m es text }
+    ensures sims { (nodes : ℕ) (bytes text : List ℕ) (m : Mission) (es : List Extension) (status : StatusOf) → IsGiven bytes m es → IsPlain m → length es ≡ 1 → (Checked m es → ⊥) → Sims nodes bytes status text → (status ≡ PlanRefused) × IsFaulty m es text }
 {}
 
 /// Of an accepted mission alone it is told what the search finds: the plan, or under `net` its

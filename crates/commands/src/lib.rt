@@ -12,8 +12,9 @@ mod status;
 
 pub use checking::check;
 pub use laws::{
-    a_checked_plan_is_sound, a_plain_mission_alone_is_flown, a_plain_mission_is_flown,
-    a_plan_has_one_first_flaw, an_accepted_mission_is_printed, what_a_search_finds_is_told,
+    a_checked_plan_is_sound, a_faulty_plan_is_told_its_fault, a_plain_mission_alone_is_flown,
+    a_plain_mission_is_flown, a_plan_has_one_first_flaw, an_accepted_mission_is_printed,
+    what_a_search_finds_is_told,
 };
 pub use outcome::Outcome;
 pub use planning::{net, plan};

@@ -88,7 +88,7 @@ module _ (d : Inside) (k : IsKept d) (none : d.live ≡ None) (p : Planned) (may
   lawful = replies_waiting m h (handover m es) done (phase_if_grounded d k sound none) refl (refl, (some, ap base_of (sym extensions_are) ∙ may.next.1), (checked_there.schedule, fits_there))
 
   left : IsLeftBy m (Handover ext net) (handover m es) done
-  left = (plan_of h, refl, refl, subst (IsReducedOf (count es) (bounds_of m es)) (sym net_is) disp_there.reduced)
+  left = (plan_of h, refl, refl, subst (IsReducedOf (count es) (bounds_of m es)) (sym net_is) disp_there.reduced, checked_there)
 
   adds : MayAdd m h e
   adds = may_add m h by (handover m es) done (Handover ext net) lawful left

@@ -24,6 +24,7 @@ use Rattle.base_laws.proofs.ListLemmas.{front_induction, in_order, EachAfter-pus
 use Rattle.base_laws.proofs.PointLemmas.{named, points-push, place_after, horizon_kept}
 use Rattle.plan_laws.proofs.PlanLemmas.{restricts}
 use Rattle.run_laws.proofs.RunLemmas.{run_fits}
+use Rattle.run_laws.proofs.CheckedLemmas.{run_checked}
 use Rattle.plan_laws.proofs.SpanLemmas.{starts_in}
 use Rattle.exec_laws.specs.Endings.{IsLastEnd}
 use Rattle.exec_laws.proofs.HorizonLemmas.{ending_of, horizon_at}
@@ -165,9 +166,10 @@ ended h is = by_parts (has_failed h) refl (plan_of h) refl (has_ended h) refl is
     by_parts false fail (x ∷ es) plan false over is = absurd (let e : Running ≡ Ended = sym (phase_flying h false fail (λ (e : plan_of h ≡ []). let f : x ∷ es ≡ [] = sym plan ∙ e in cc) over) ∙ is in cc)
     by_parts false fail (x ∷ es) plan true over is = record { some = λ (e : plan_of h ≡ []). let f : x ∷ es ≡ [] = sym plan ∙ e in cc; over = over }
 
--- a run of a checked plan that has ended
-pub ended_leaves : (m : Mission) (h : List Entry) → Run m h → Checked m (plan_of h) → phase_of h ≡ Ended → (x : ℕ) → x < count_at h → executed h x ≡ None → IsLastEnd (plan_of h) x
-ended_leaves m h run k is x below free =
+-- a run that has ended
+pub ended_leaves : (m : Mission) (h : List Entry) → Run m h → phase_of h ≡ Ended → (x : ℕ) → x < count_at h → executed h x ≡ None → IsLastEnd (plan_of h) x
+ended_leaves m h run is x below free =
     let e = ended h is in
+    let k = run_checked m h run e.some in
     let last = last_horizon m (plan_of h) k e.some in
     last_end m h run e.some e.over last.0 last.1 k.mission x below free

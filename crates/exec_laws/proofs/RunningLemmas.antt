@@ -1,5 +1,5 @@
 -- A running state goes on: a tick, some fire or some report is answered with Done.
-use Rattle.std.proofs.Common.{◌≡◌, ◌≢◌, ℕ, zero, suc, ◌+◌, ◌<◌, ◌≤◌, true, false, nat_eq, nat_le, List, [], ◌∷◌, ◌++◌, Option, Some, None, refl, sym, ap, ◌∙◌, subst, arith, inl, inr, pos}
+use Rattle.std.proofs.Common.{◌≡◌, ◌≢◌, ℕ, zero, suc, ◌<◌, ◌≤◌, true, false, nat_eq, nat_le, List, [], ◌∷◌, ◌++◌, Option, Some, None, refl, sym, ap, ◌∙◌, subst, arith, inl, inr, pos}
 use Rattle.std.proofs.lemmas.Int.{ints}
 use Rattle.std.proofs.lemmas.Bool.{cases_Bool, eqb-true}
 use Rattle.std.proofs.lemmas.Bool.Decides.{nat_tests}
@@ -29,6 +29,7 @@ use Rattle.base_laws.proofs.PointLemmas.{count-push}
 use Rattle.run_laws.proofs.StateLemmas.{plan_kept, plan_handed, times_kept, executed-put, now_of-push}
 use Rattle.run_laws.proofs.RunLemmas.{run_fits, event_reply, offered_base, otherwise}
 use Rattle.net_laws.proofs.ExactLemmas.{reduced_again}
+use Rattle.run_laws.proofs.CheckedLemmas.{handed_plan}
 use Rattle.net_laws.proofs.AnswerLemmas.{fits_both}
 use Rattle.net_laws.proofs.MoveLemmas.{tick_or}
 use Rattle.exec_laws.specs.Running.{GoesOn}
@@ -41,13 +42,6 @@ use Rattle.exec_laws.proofs.ReplyLemmas.{answered_running, may_execute}
 pub record HasNet (m : Mission) (h : List Entry) : Type 0 where
   pub net : Net
   pub reduced : IsReducedOf (count_at h) (bounds_at m h) net
-
--- a handover's plan is the one before it with its extension
-pub handed_plan : (m : Mission) (h : List Entry) (e : Extension) (n : Net) (event : Event) (reply : Reply) → Replies m h event reply → (left : IsLeftBy m (Handover e n) event reply) → left.0 ≡ plan_of h
-handed_plan m h e n event reply lawful left =
-    let here : Replies m h (handover m (left.0 ++ e ∷ [])) done = rw (left.1, left.2) at lawful in
-    let r : HandoverReply m h m (left.0 ++ e ∷ []) done = event_reply m h (handover m (left.0 ++ e ∷ [])) here in
-    offered_base left.0 (plan_of h) e r.1.1
 
 net_on : (m : Mission) (es fs : List Extension) (n : Net) → es ≡ fs → IsReducedOf (count es) (bounds_of m es) n → IsReducedOf (count fs) (bounds_of m fs) n
 net_on m es fs n same r = subst (λ (l : List Extension). IsReducedOf (count l) (bounds_of m l) n) same r

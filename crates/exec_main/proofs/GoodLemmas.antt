@@ -15,14 +15,15 @@ use Rattle.plan_search.specs.First.{FindsFirst}
 use Rattle.command_line.specs.declared.request.Command.{Command}
 use Rattle.command_line.specs.declared.request.Command.TheVariants.{Print, Plan, Check, Net, Sim}
 use Rattle.command_line.specs.declared.request.Request.{Request}
+use Rattle.commands.specs.Checks.{IsFaulty}
 use Rattle.commands.specs.Inputs.{IsGiven, IsWhole}
 use Rattle.commands.specs.Plans.{IsNetText, IsPlanText}
 use Rattle.commands.specs.Searches.{IsToldOf}
 use Rattle.commands.specs.Prints.{IsAccepted}
 use Rattle.commands.specs.Sims.{IsPlain, IsFlown}
 use Rattle.commands.specs.declared.status.Status.{Status}
-use Rattle.commands.specs.declared.status.Status.TheVariants.{Done}
-use Rattle.commands.proofs.AnswerLemmas.{printed, sound, flown}
+use Rattle.commands.specs.declared.status.Status.TheVariants.{Done, PlanRefused}
+use Rattle.commands.proofs.AnswerLemmas.{printed, sound, faulted, flown, unflown}
 use Rattle.commands.proofs.SearchLemmas.{searched, flown_alone}
 use Rattle.exec_main.specs.Streams.{Reads}
 use Rattle.exec_main.specs.Ground.{Makes, Delivers, Writes, WritesSuch}
@@ -58,6 +59,18 @@ pub checked_flown : (q : Request) (bytes : List ℕ) (m : Mission) (es : List Ex
 checked_flown q bytes m es result left taken taken_after is g plain one c d =
     let comes = flown q.budget bytes d.text m es d.status g plain one c (made q Sim bytes result left taken taken_after is g.mission.spells.text.short d) in
     (d.text, comes.1, subst (λ (s : Status). Writes result s taken taken_after d.text) comes.0 d.written)
+
+-- a text of a faulty plan is written with its status
+faulty_is : (m : Mission) (es : List Extension) (result : ℕ) (status : Status) (taken taken_after : Option (List ℕ)) (text : List ℕ) → (status ≡ PlanRefused) × IsFaulty m es text → Writes result status taken taken_after text → (due : List ℕ) × IsFaulty m es due × Writes result PlanRefused taken taken_after due
+faulty_is m es result status taken taken_after text e w = (text, e.1, subst (λ (s : Status). Writes result s taken taken_after text) e.0 w)
+
+pub faulty_told : (q : Request) (bytes : List ℕ) (m : Mission) (es : List Extension) (result : ℕ) (left taken taken_after : Option (List ℕ)) → q.command ≡ Check → IsGiven bytes m es → (Checked m es → ⊥) → Delivers q result (Some bytes) left taken taken_after → (text : List ℕ) × IsFaulty m es text × Writes result PlanRefused taken taken_after text
+faulty_told q bytes m es result left taken taken_after is g breaks d =
+    faulty_is m es result d.status taken taken_after d.text (faulted bytes d.text m es d.status g breaks (made q Check bytes result left taken taken_after is g.mission.spells.text.short d)) d.written
+
+pub faulty_unflown : (q : Request) (bytes : List ℕ) (m : Mission) (es : List Extension) (result : ℕ) (left taken taken_after : Option (List ℕ)) → q.command ≡ Sim → IsGiven bytes m es → IsPlain m → length es ≡ 1 → (Checked m es → ⊥) → Delivers q result (Some bytes) left taken taken_after → (text : List ℕ) × IsFaulty m es text × Writes result PlanRefused taken taken_after text
+faulty_unflown q bytes m es result left taken taken_after is g plain one breaks d =
+    faulty_is m es result d.status taken taken_after d.text (unflown q.budget bytes d.text m es d.status g plain one breaks (made q Sim bytes result left taken taken_after is g.mission.spells.text.short d)) d.written
 
 pub plan_told : (q : Request) (bytes : List ℕ) (m : Mission) (found : Found Extension) (result : ℕ) (left taken taken_after : Option (List ℕ)) → q.command ≡ Plan → IsWhole bytes m → FindsFirst m q.budget found → Delivers q result (Some bytes) left taken taken_after → WritesSuch (IsToldOf m [] (IsPlanText m) found) result taken taken_after
 plan_told q bytes m found result left taken taken_after is h f d =

@@ -12,12 +12,13 @@ ghost use Rattle.search_tree.specs.Tree.{Found};
 ghost use Rattle.plan_search.specs.First.{FindsFirst};
 ghost use Rattle.command_line.specs.declared.request.Command.TheVariants.{Print, Plan, Check, Net, Sim};
 ghost use Rattle.command_line.specs.declared.request.Request.{Request};
+ghost use Rattle.commands.specs.Checks.{IsFaulty};
 ghost use Rattle.commands.specs.Inputs.{IsGiven, IsWhole};
 ghost use Rattle.commands.specs.Plans.{IsNetText, IsPlanText};
 ghost use Rattle.commands.specs.Prints.{IsAccepted};
 ghost use Rattle.commands.specs.Searches.{IsToldOf};
 ghost use Rattle.commands.specs.Sims.{IsPlain, IsFlown};
-ghost use Rattle.commands.specs.declared.status.Status.TheVariants.{Done};
+ghost use Rattle.commands.specs.declared.status.Status.TheVariants.{Done, PlanRefused};
 ghost use Rattle.exec_main.specs.Ground.{Delivers, Writes, WritesSuch};
 
 /// The canonical text of an accepted mission is written under `print`, or a front of it with a write
@@ -35,6 +36,13 @@ pub fn checked_plans_are_told()
 /// `sim`.
 pub fn checked_plans_are_flown()
     ensures { (q : Request) (bytes : List ℕ) (m : Mission) (es : List Extension) (result : ℕ) (left taken taken_after : OptionOf (List ℕ)) → q.command ≡ Sim → IsGiven bytes m es → IsPlain m → length es ≡ 1 → Checked m es → Delivers q result (Some bytes) left taken taken_after → (text : List ℕ) × IsFlown m es text × Writes result Done taken taken_after text }
+{}
+
+/// The first fault of a plan that breaks a rule is told with status 11: under `check`, and under `sim`
+/// where it has one extension and is for a mission of one horizon without devices.
+pub fn faulty_plans_are_told_their_faults()
+    ensures checks { (q : Request) (bytes : List ℕ) (m : Mission) (es : List Extension) (result : ℕ) (left taken taken_after : OptionOf (List ℕ)) → q.command ≡ Check → IsGiven bytes m es → (Checked m es → ⊥) → Delivers q result (Some bytes) left taken taken_after → (text : List ℕ) × IsFaulty m es text × Writes result PlanRefused taken taken_after text }
+    ensures sims { (q : Request) (bytes : List ℕ) (m : Mission) (es : List Extension) (result : ℕ) (left taken taken_after : OptionOf (List ℕ)) → q.command ≡ Sim → IsGiven bytes m es → IsPlain m → length es ≡ 1 → (Checked m es → ⊥) → Delivers q result (Some bytes) left taken taken_after → (text : List ℕ) × IsFaulty m es text × Writes result PlanRefused taken taken_after text }
 {}
 
 /// What the search of the words' budget finds for an accepted mission is told under `plan`: the plan

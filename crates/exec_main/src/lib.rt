@@ -7,7 +7,8 @@ mod top;
 
 pub use laws::{
     accepted_missions_are_printed, checked_plans_are_flown, checked_plans_are_told,
-    first_plans_are_flown, first_plans_are_told, networks_are_told,
+    faulty_plans_are_told_their_faults, first_plans_are_flown, first_plans_are_told,
+    networks_are_told,
 };
 pub use top::ground;
 

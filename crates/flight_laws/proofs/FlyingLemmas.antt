@@ -1,4 +1,4 @@
--- A flight of a checked plan without devices: each step keeps it, and where none is left it has ended.
+-- A flight without devices: each step keeps it, and where none is left it has ended.
 use Rattle.std.proofs.Common.{◌≡◌, ◌≢◌, ℕ, ◌<◌, Bool, true, false, List, [], refl, sym, ap, ◌∙◌, subst, arith}
 use Rattle.hs_base.specs.declared.ids.PointId.{PointId}
 use Rattle.hs_base.specs.declared.mission.Mission.{Mission}
@@ -6,7 +6,7 @@ use Rattle.hs_base.specs.declared.plan.Extension.{Extension}
 use Rattle.hs_machine.specs.declared.history.Entry.{Entry}
 use Rattle.hs_machine.specs.declared.history.Deed.TheVariants.{Fire}
 use Rattle.hs_machine.specs.declared.history.Phase.TheVariants.{Ended}
-use Rattle.hs_base.specs.Checked.{Checked}
+use Rattle.hs_base.specs.Missions.{IsMission}
 use Rattle.hs_base.specs.Points.{count}
 use Rattle.hs_machine.specs.State.{plan_of, has_ended, phase_of}
 use Rattle.hs_machine.specs.Eager.{NoneMayFire}
@@ -28,7 +28,6 @@ pub record Steps (m : Mission) (h h2 : List Entry) (points : ℕ) : Type 0 where
 flying_on : (m : Mission) (h h2 : List Entry) (points : ℕ) → IsFlying m h points → IsFlight m (plan_of h) h2 → IsFlying m h2 points
 flying_on m h h2 points f flight = record {
   flight = subst (λ (es : List Extension). IsFlight m es h2) (sym flight.plan) flight;
-  checked = subst (Checked m) (sym flight.plan) f.checked;
   some = λ (e : plan_of h2 ≡ []). f.some (sym flight.plan ∙ e);
   no_devices = f.no_devices;
   points_are = f.points_are ∙ ap count (sym flight.plan);
@@ -50,7 +49,7 @@ flying_ticked m h points by h2 f still turn =
     let flight = flight_ticked m (plan_of h) h by h2 f.flight still turn in
     record {
       flying = flying_on m h h2 points f flight;
-      fewer = subst (λ (l : List Entry). steps_left l < steps_left h) (sym (turn_ticked m h by h2 turn)) (tick_fewer m (plan_of h) h by f.checked refl turn.answers.lawful);
+      fewer = subst (λ (l : List Entry). steps_left l < steps_left h) (sym (turn_ticked m h by h2 turn)) (tick_fewer m h by f.flight.run turn.answers.lawful);
       plan = flight.plan;
     }
 
@@ -71,13 +70,12 @@ flying_stops m h points by reply h2 f still turn other = by_end (has_ended h) re
         let said : reply ≡ over = rw ended at turn.answers.lawful in
         (ended, turn_quiet m h by tick reply h2 turn (ap leaves_deed said))
 
--- the first handover of a checked plan
-pub flying_handed : (m : Mission) (es : List Extension) (points by : ℕ) (h2 : List Entry) → Checked m es → es ≢ [] → HasNoDevices m → points ≡ count es → Turn m [] by (handover m es) done h2 → IsFlying m h2 points × (plan_of h2 ≡ es)
-flying_handed m es points by h2 checked some none size turn =
-    let flight = flight_handed m es by m h2 checked.mission turn in (
+-- the first handover
+pub flying_handed : (m : Mission) (es : List Extension) (points by : ℕ) (h2 : List Entry) → IsMission m → es ≢ [] → HasNoDevices m → points ≡ count es → Turn m [] by (handover m es) done h2 → IsFlying m h2 points × (plan_of h2 ≡ es)
+flying_handed m es points by h2 mission some none size turn =
+    let flight = flight_handed m es by m h2 mission turn in (
       record {
         flight = subst (λ (l : List Extension). IsFlight m l h2) (sym flight.plan) flight;
-        checked = subst (Checked m) (sym flight.plan) checked;
         some = λ (e : plan_of h2 ≡ []). some (sym flight.plan ∙ e);
         no_devices = none;
         points_are = size ∙ ap count (sym flight.plan);

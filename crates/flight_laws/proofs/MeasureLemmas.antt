@@ -1,5 +1,5 @@
 -- Each fire and each tick leaves fewer steps.
-use Rattle.std.proofs.Common.{◌≡◌, ℕ, ◌<◌, ◌≤◌, Bool, true, false, cond, nat_eq, List, [], ◌∷◌, length, Some, None, refl, sym, ap, ◌∙◌, subst, arith, inl, inr, pos}
+use Rattle.std.proofs.Common.{◌≡◌, ℕ, ◌<◌, ◌≤◌, Bool, true, false, cond, nat_eq, List, [], ◌∷◌, length, Some, None, refl, sym, ap, ◌∙◌, arith, inl, inr, pos}
 use Rattle.std.proofs.lemmas.Int.{ints}
 use Rattle.std.proofs.lemmas.Bool.Decides.{nat_tests}
 use Rattle.std.specs.Prelude.{filter}
@@ -10,17 +10,18 @@ use Rattle.hs_base.specs.declared.plan.Extension.{Extension}
 use Rattle.hs_machine.specs.declared.history.Entry.{Entry}
 use Rattle.hs_machine.specs.declared.history.Deed.TheVariants.{Tick, Fire}
 use Rattle.hs_base.specs.Missions.{IsHorizon}
-use Rattle.hs_base.specs.Checked.{Checked}
 use Rattle.hs_base.specs.Points.{count}
 use Rattle.hs_base.specs.Fits.{time_at}
 use Rattle.hs_base.specs.Schedule.{numbers_from}
 use Rattle.hs_machine.specs.State.{now_of, plan_of, count_at, executed}
 use Rattle.hs_machine.specs.Machine.{tick, fire, done, Replies}
+use Rattle.hs_machine.specs.Run.{Run}
 use Rattle.base_laws.proofs.ListLemmas.{each_at}
 use Rattle.net_laws.proofs.BetweenLemmas.{Has}
 use Rattle.net_laws.proofs.ListLemmas.{numbers_has}
 use Rattle.run_laws.proofs.StateLemmas.{plan_kept, times_kept, executed-put, now_of-push}
 use Rattle.run_laws.proofs.RunLemmas.{event_reply}
+use Rattle.run_laws.proofs.CheckedLemmas.{run_checked}
 use Rattle.exec_laws.proofs.ReplyLemmas.{may_execute, done_running}
 use Rattle.exec_laws.proofs.StepLemmas.{running}
 use Rattle.exec_laws.proofs.HorizonLemmas.{before_tick}
@@ -84,10 +85,11 @@ fire_fewer m h by x lawful =
     gone free = let same : nat_eq x.0 x.0 ≡ true = grind (arith, nat_tests) in ap is_none (executed-put h e x x.0 refl free) ∙ rw same refl
 
 -- a tick
-pub tick_fewer : (m : Mission) (es : List Extension) (h : List Entry) (by : ℕ) → Checked m es → plan_of h ≡ es → Replies m h tick done → steps_left (with_deed h by Tick) < steps_left h
-tick_fewer m es h by checked plan lawful =
+pub tick_fewer : (m : Mission) (h : List Entry) (by : ℕ) → Run m h → Replies m h tick done → steps_left (with_deed h by Tick) < steps_left h
+tick_fewer m h by run lawful =
     let r = running h (done_running m h tick lawful refl) in
-    let g = last_horizon m (plan_of h) (subst (Checked m) (sym plan) checked) r.some in
+    let checked = run_checked m h run r.some in
+    let g = last_horizon m (plan_of h) checked r.some in
     let early = before_tick m h g.0 (event_reply m h tick lawful) r.some r.open_mark g.1 in
     let last = (each_at (IsHorizon m.vars) m.horizons _ g.0 checked.mission.horizons g.1).tick.1 in
     let same : open_points after ≡ open_points h = ap (λ ts. filter (λ y. is_none (time_at ts y)) (numbers_from 0 (count_at after))) (times_kept h e refl) ∙ ap (λ (fs : List Extension). filter (λ y. is_none (executed h y)) (numbers_from 0 (count fs))) (plan_kept h e refl) in

@@ -12,7 +12,6 @@ use Rattle.hs_base.specs.declared.mission.Mission.{Mission}
 use Rattle.hs_machine.specs.declared.history.Entry.{Entry}
 use Rattle.hs_base.specs.Schedule.{numbers_from}
 use Rattle.hs_machine.specs.State.{now_of, plan_of, count_at, executed, has_failed, hands_over, watched}
-use Rattle.hs_base.specs.Checked.{Checked}
 use Rattle.hs_machine.specs.Machine.{fire, done, Replies}
 use Rattle.hs_machine.specs.Eager.{Eager}
 use Rattle.hs_machine.specs.Run.{Run}
@@ -60,10 +59,9 @@ pub record EndsByFiring (h : List Entry) (x : PointId) : Type 0 where
 abbrev pub mark_of : List Extension → PointId
 mark_of es = record { 0 = hor es (length es) }
 
--- an eager run of a checked plan without devices, which has so many points
+-- an eager run of a plan without devices, which has so many points
 pub record IsFlying (m : Mission) (h : List Entry) (points : ℕ) : Type 0 where
   pub flight : IsFlight m (plan_of h) h
-  pub checked : Checked m (plan_of h)
   pub some : plan_of h ≢ []
   pub no_devices : HasNoDevices m
   pub points_are : points ≡ count_at h

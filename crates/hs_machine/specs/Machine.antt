@@ -8,6 +8,7 @@ use Rattle.hs_base.specs.Schedule.{Schedule}
 use Rattle.hs_base.specs.Points.{count}
 use Rattle.hs_base.specs.Bounds.{bounds_of}
 use Rattle.hs_base.specs.Reduced.{IsReducedOf}
+use Rattle.hs_base.specs.Checked.{Checked}
 use Rattle.hs_base.specs.Fits.{Fits, Breaks}
 use Rattle.hs_base.specs.Moments.{Moment, MayFire, MayGoOn, MustFire, IsLeastTied, IsUntied, Bars, IsLate}
 use Rattle.hs_machine.specs.State.{plan_of, executed, tick_at, moment_of, phase_of}
@@ -143,14 +144,14 @@ needs_net _ = false
 abbrev pub Replies : Mission → List Entry → Event → Reply → Type 0
 Replies m h event reply = RefusedIf (is_over (phase_of h)) over reply (RefusedIf (is_waiting (phase_of h) && needs_net event) no_net reply (EventReply m h event reply))
 
--- the event and the reply that leave a deed
+-- the event and the reply that leave a deed; a plan that is handed over, or found to be stale, is checked
 abbrev pub IsLeftBy : Mission → Deed → Event → Reply → Type 0
 IsLeftBy m Tick event reply = (event ≡ tick) × (reply ≡ done)
 IsLeftBy m (Fire x) event reply = (event ≡ fire x.0) × (reply ≡ done)
 IsLeftBy m (Report x) event reply = (event ≡ report x.0) × (reply ≡ done)
 IsLeftBy m (Handover e n) event reply =
-    (es : List Extension) × (event ≡ handover m (es ++ e ∷ [])) × (reply ≡ done) × IsReducedOf (count (es ++ e ∷ [])) (bounds_of m (es ++ e ∷ [])) n
-IsLeftBy m (Stale e b p q) event reply = (es : List Extension) × (event ≡ handover m (es ++ e ∷ [])) × (reply ≡ stale b p q)
+    (es : List Extension) × (event ≡ handover m (es ++ e ∷ [])) × (reply ≡ done) × IsReducedOf (count (es ++ e ∷ [])) (bounds_of m (es ++ e ∷ [])) n × Checked m (es ++ e ∷ [])
+IsLeftBy m (Stale e b p q) event reply = (es : List Extension) × (event ≡ handover m (es ++ e ∷ [])) × (reply ≡ stale b p q) × Checked m (es ++ e ∷ [])
 IsLeftBy m (Late b) event reply = (event ≡ tick) × (reply ≡ failed b)
 IsLeftBy m (Early b) event reply = (event ≡ report b.from.0) × (reply ≡ failed b)
 IsLeftBy m (Broken d) event reply = (event ≡ broken d.0) × (reply ≡ done)

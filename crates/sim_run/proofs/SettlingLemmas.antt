@@ -110,7 +110,7 @@ launched p q old new by reply checked one none same is mission turn answer =
     let es = p.plan.extensions in
     let some : es ≢ [] = λ e. omega (arith, one, ap length e) in
     let begins : Turn p.mission [] by (handover p.mission es) done new.history = rw (same, is, answer) at turn in
-    let f = flying_handed p.mission es (count es) by new.history checked some none refl begins in
+    let f = flying_handed p.mission es (count es) by new.history checked.mission some none refl begins in
     let named : new.mission ≡ p.mission = mission ∙ ap (λ (r : Recorded). r.mission) is in
     record {
       mission = named;

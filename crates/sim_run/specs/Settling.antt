@@ -6,7 +6,7 @@ use Rattle.plan_check.specs.Planned.{Planned}
 use Rattle.exec_core.specs.Recorded.{Recorded}
 use Rattle.flight_laws.specs.Flights.{steps_left, IsFlying}
 
--- an executive in an eager flight of a checked plan that has so many points
+-- an executive in an eager flight of a plan that has so many points
 abbrev pub Flies : Recorded → ℕ → Type 0
 Flies r points = IsFlying r.mission r.history points
 
