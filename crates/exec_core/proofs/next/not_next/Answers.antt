@@ -32,13 +32,13 @@ returns c = record {
   is = refl;
   apart = (
     λ (next : IsNext c.args.newest.now c.args.offered.now).
-    let n = c.agree_on-agree.result in
-    let all : n ≡ length c.args.newest.now = agree_self c.args.newest.now n (subst (λ (es : List Extension). AgreeOn c.args.newest.now es n) next.1 c.agree_on-agree.ensures) in
-    let size : length (base_of c.args.offered.now) ≡ length c.args.newest.now = ap length next.1 in
-    elim c.else-agree-newest.branch [
-      | else-agree-newest-via-then-agree-newest+else-agree-base w ↦ absurd (omega (arith, w.if-agree-base.false, all, size))
-      | else-agree-newest-via-else-agree-newest w ↦ absurd (omega (arith, w.if-agree-newest.false, all))
-    ],
+        let n = c.agree_on-agree.result in
+        let all : n ≡ length c.args.newest.now = agree_self c.args.newest.now n (subst (λ (es : List Extension). AgreeOn c.args.newest.now es n) next.1 c.agree_on-agree.ensures) in
+        let size : length (base_of c.args.offered.now) ≡ length c.args.newest.now = ap length next.1 in
+        elim c.else-agree-newest.branch [
+          | else-agree-newest-via-then-agree-newest+else-agree-base w ↦ absurd (omega (arith, w.if-agree-base.false, all, size))
+          | else-agree-newest-via-else-agree-newest w ↦ absurd (omega (arith, w.if-agree-newest.false, all))
+        ],
     refl,
     c.agree_on-agree.ensures,
   );
