@@ -9,10 +9,10 @@ use Rattle.text_laws.proofs.PieceLemmas.{cut_one}
 use Rattle.ddl_read.specs.declared.piece.Piece.{Piece as CutPiece}
 use Rattle.ddl_read.specs.Spelled.{placed}
 use Rattle.ddl_read.specs.Cutting.{IsCut}
-use Rattle.plan_text.specs.declared.written.WrittenExtension.{WrittenExtension}
-use Rattle.plan_text.specs.Kept.{Kept, kept}
-use Rattle.plan_text.specs.WrittenPlan.{PlanText}
-use Rattle.plan_text.specs.PlanSpelling.{PlanSpells}
+use Rattle.hs_texts.specs.declared.written.WrittenExtension.{WrittenExtension}
+use Rattle.hs_texts.specs.Kept.{Kept, kept}
+use Rattle.hs_texts.specs.PlanGrammar.{PlanGrammar}
+use Rattle.hs_texts.specs.PlanSpelling.{PlanSpells}
 use Rattle.plan_text.proofs.PlanAnswerLemmas.{plan_one, spelled_or_refusal}
 use Rattle.commands.specs.Inputs.{IsInFront, EndsAt, IsGiven, IsBehindRefusal, IsGivenRefusal}
 use Rattle.commands.proofs.FrontLemmas.{in_front_one, in_front_or_refused}
@@ -42,7 +42,7 @@ none_left (p ∷ ps) zero h = absurd (omega arith)
 none_left (p ∷ ps) (suc n) h = none_left ps n (omega arith)
 
 -- no pieces are no plan
-no_plan : (m : Mission) (ps : List Piece) (x : Kept (List WrittenExtension)) → ps ≡ [] → PlanText m ps x → ⊥
+no_plan : (m : Mission) (ps : List Piece) (x : Kept (List WrittenExtension)) → ps ≡ [] → PlanGrammar m ps x → ⊥
 no_plan m ps x e t =
     let none : [] ≡ (t.first.0 ∷ []) ++ t.back = sym e ∙ t.joined ∙ ap (λ (zs : List Piece). zs ++ t.back) t.first.1 in
     absurd cc

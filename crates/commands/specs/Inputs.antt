@@ -9,7 +9,7 @@ use Rattle.hs_texts.specs.Pieces.{Placed, IsTextOf}
 use Rattle.hs_texts.specs.MissionMeaning.{Means}
 use Rattle.hs_texts.specs.MissionSpelling.{Spells, SpellsFront, IsFrontRefusal, IsMissionRefusal}
 use Rattle.hs_texts.specs.RefusalText.{refusal_line}
-use Rattle.plan_text.specs.PlanSpelling.{PlanSpells, IsPlanRefusal}
+use Rattle.hs_texts.specs.PlanSpelling.{PlanSpells, IsPlanRefusal}
 use Rattle.commands.specs.declared.status.Status.{Status}
 use Rattle.commands.specs.declared.status.Status.TheVariants.{Refused}
 

@@ -11,6 +11,7 @@ pub mod MissionRefusals
 pub mod MissionSpelling
 pub mod RefusalText
 pub mod ClosingText
-pub mod WrittenPlan
-pub mod WrittenRules
+pub mod Kept
+pub mod KeptTexts
+pub mod PlanGrammar
 pub mod PlanSpelling

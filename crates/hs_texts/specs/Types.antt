@@ -17,3 +17,11 @@ pub use Rattle.hs_texts.specs.declared.ast.AstHorizon.{AstHorizon}
 pub use Rattle.hs_texts.specs.declared.ast.Ast.{Ast}
 pub use Rattle.hs_texts.specs.declared.refusal.Refusal.{Refusal}
 pub use Rattle.hs_texts.specs.declared.refusal.Refusal.TheVariants.{NotUtf8, Char, Expected, Number, Trailing, Twice, Unknown, Range as BadRange, Limit, NoBegin, Horizons, SameVar, SameBy, Memory as NoMemory}
+pub use Rattle.hs_texts.specs.declared.written.WrittenPoint.{WrittenPoint}
+pub use Rattle.hs_texts.specs.declared.written.WrittenPoint.TheVariants.{Origin, Horizon, End}
+pub use Rattle.hs_texts.specs.declared.written.WrittenToken.{WrittenToken}
+pub use Rattle.hs_texts.specs.declared.written.WrittenTime.{WrittenTime}
+pub use Rattle.hs_texts.specs.declared.written.WrittenKind.{WrittenKind}
+pub use Rattle.hs_texts.specs.declared.written.WrittenSupport.{WrittenSupport}
+pub use Rattle.hs_texts.specs.declared.written.WrittenBody.{WrittenBody}
+pub use Rattle.hs_texts.specs.declared.written.WrittenExtension.{WrittenExtension}

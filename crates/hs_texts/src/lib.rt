@@ -1,10 +1,11 @@
-//! What texts say: written missions, refusals, and the definitions that contracts cite of texts:
-//! pieces, grammars, meanings and written forms.
+//! What texts say: written missions and plans, refusals, and the definitions that contracts cite
+//! of texts: pieces, grammars, meanings and written forms.
 #![tactic(auto)]
 
 mod ast;
 mod refusal;
 mod text;
+mod written;
 
 pub use ast::{
     Arg, Ast, AstChoice, AstGoal, AstHorizon, AstKind, AstNeed, AstSaid, AstStep, AstValue, AstVar,
@@ -12,3 +13,7 @@ pub use ast::{
 };
 pub use refusal::Refusal;
 pub use text::Text;
+pub use written::{
+    WrittenBody, WrittenExtension, WrittenKind, WrittenPoint, WrittenSupport, WrittenTime,
+    WrittenToken,
+};

@@ -1,3 +1,3 @@
 pub mod LogText
-pub mod WrittenLog
+pub mod LogGrammar
 pub mod WritableLogs

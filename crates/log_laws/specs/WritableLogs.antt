@@ -1,5 +1,5 @@
 -- Histories whose logs can be read back, and what these logs write.
-use Rattle.std.specs.Prelude.{◌≡◌, ℕ, ◌<◌, ℤ, pos, negsuc, suc, neg_ℤ, ◌≤ℤ◌, List, [], ◌∷◌, ◌++◌, length, map, drop, slice_get, Option, Some, None, ⊤}
+use Rattle.std.specs.Prelude.{◌≡◌, ℕ, ◌<◌, pos, neg_ℤ, ◌≤ℤ◌, List, [], ◌∷◌, ◌++◌, length, map, slice_get, Some, ⊤}
 use Rattle.hs_base.specs.declared.limits.TheConstants.{LAST}
 use Rattle.hs_base.specs.declared.mission.Mission.{Mission}
 use Rattle.hs_base.specs.declared.net.Bound.{Bound}
@@ -10,13 +10,17 @@ use Rattle.hs_machine.specs.declared.history.Entry.{Entry}
 use Rattle.hs_base.specs.Missions.{IsMission}
 use Rattle.hs_base.specs.Ranges.{range, whole, InRange}
 use Rattle.hs_base.specs.Walks.{EachAfter}
-use Rattle.hs_base.specs.Points.{Point, origin, horizon, ending, count, points_of}
+use Rattle.hs_base.specs.Points.{ending, count, points_of}
 use Rattle.hs_machine.specs.State.{now_of, plan_of, phase_of}
-use Rattle.hs_texts.specs.Pieces.{Placed, IsTextOf, pieces_of}
 use Rattle.hs_texts.specs.Written.{variable_name}
-use Rattle.hs_texts.specs.WrittenPlan.{WrittenSigned, plus, minus}
-use Rattle.log_laws.specs.WrittenLog.{WrittenBound, WrittenDeed, handed, went_stale, fired, reported, passed, too_late, too_early, broke, WrittenEntry, WrittenLog, LogText, log_breaks}
-use Rattle.text_laws.specs.WritablePlans.{IsWritableExtension, written_at, written_body}
+use Rattle.hs_texts.specs.KeptTexts.{IsKeptText}
+use Rattle.text_laws.specs.WritablePlans.{IsWritableExtension, written_at, written_extension}
+use Rattle.log_laws.specs.declared.written.WrittenBound.{WrittenBound}
+use Rattle.log_laws.specs.declared.written.WrittenDeed.{WrittenDeed}
+use Rattle.log_laws.specs.declared.written.WrittenDeed.TheVariants.{Handover as handed, Stale as went_stale, Fire as fired, Report as reported, Late as too_late, Early as too_early, Broken as broke}
+use Rattle.log_laws.specs.declared.written.WrittenEntry.{WrittenEntry}
+use Rattle.log_laws.specs.declared.written.WrittenLog.{WrittenLog}
+use Rattle.log_laws.specs.LogGrammar.{LogGrammar}
 
 -- both points are points of the plan, and the weight is one that bounds have
 pub record IsWritableBound (es : List Extension) (b : Bound) : Type 0 where
@@ -51,31 +55,16 @@ pub record IsWritableHistory (m : Mission) (h : List Entry) : Type 0 where
 
 -- The history with names in place of numbers.
 
-abbrev pub written_signed : ℤ → WrittenSigned
-written_signed (pos n) = plus (pos n)
-written_signed (negsuc n) = minus (pos (suc n))
-
 abbrev pub written_bound : Mission → List Extension → Bound → WrittenBound
-written_bound m es b = record { from = written_at m (points_of es) b.from.0; to = written_at m (points_of es) b.to.0; most = written_signed b.most }
-
--- a fired point
-abbrev pub written_fired : Mission → Option Point → List WrittenDeed
-written_fired m None = []
-written_fired m (Some origin) = []
-written_fired m (Some (horizon k)) = passed k ∷ []
-written_fired m (Some (ending v i)) = fired (record { sv = variable_name m v; place = i }) ∷ []
-
-abbrev pub written_reported : Mission → Option Point → List WrittenDeed
-written_reported m (Some (ending v i)) = reported (record { sv = variable_name m v; place = i }) ∷ []
-written_reported m _ = []
+written_bound m es b = record { from = written_at m (points_of es) b.from.0; to = written_at m (points_of es) b.to.0; most = b.most }
 
 -- a deed, where es is the newest plan before it; a tick isn't written
 abbrev pub written_deeds : Mission → List Extension → Deed → List WrittenDeed
 written_deeds m es Tick = []
-written_deeds m es (Fire x) = written_fired m (slice_get (points_of es) x.0)
-written_deeds m es (Report x) = written_reported m (slice_get (points_of es) x.0)
-written_deeds m es (Handover e net) = handed e.base (length net.groups) (length net.edges) (written_body m es e) ∷ []
-written_deeds m es (Stale e b from to) = went_stale e.base (written_bound m (es ++ e ∷ []) b) from to (written_body m es e) ∷ []
+written_deeds m es (Fire x) = fired (written_at m (points_of es) x.0) ∷ []
+written_deeds m es (Report x) = reported (written_at m (points_of es) x.0) ∷ []
+written_deeds m es (Handover e net) = handed (written_extension m es e) (length net.groups) (length net.edges) ∷ []
+written_deeds m es (Stale e b from to) = went_stale (written_extension m es e) (written_bound m (es ++ e ∷ []) b) from to ∷ []
 written_deeds m es (Late b) = too_late (written_bound m es b) ∷ []
 written_deeds m es (Early b) = too_early (written_bound m es b) ∷ []
 written_deeds m es (Broken v) = broke (variable_name m v.0) ∷ []
@@ -91,9 +80,6 @@ written_entries m before (e ∷ h) = map (written_entry (now_of before)) (writte
 abbrev pub written_log : Mission → List Entry → WrittenLog
 written_log m h = record { entries = written_entries m [] h; phase = phase_of h; at = pos (now_of h) }
 
--- the pieces from number i on are a log's text that keeps the rules on points
-pub record IsLogText (m : Mission) (bytes : List ℕ) (i : ℕ) (l : WrittenLog) : Type 0 where
-  pub pieces : List Placed
-  pub is_text : IsTextOf bytes pieces
-  pub sentence : LogText (pieces_of (drop i pieces)) l
-  pub kept : log_breaks m l ≡ []
+-- the pieces from number i on are a log's text
+abbrev pub IsLogText : Mission → List ℕ → ℕ → WrittenLog → Type 0
+IsLogText m bytes i l = IsKeptText (LogGrammar m) bytes i l

@@ -2,5 +2,7 @@
 #![tactic(auto)]
 
 mod logs;
+mod written;
 
 pub use logs::log_texts_are_sentences;
+pub use written::{WrittenBound, WrittenDeed, WrittenEntry, WrittenLog, WrittenMiss};

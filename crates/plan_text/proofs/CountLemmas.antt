@@ -14,11 +14,11 @@ use Rattle.hs_texts.specs.Pieces.{Piece, word, number as digits, symbol, number_
 use Rattle.text_laws.specs.Parsers.{done, stuck, number}
 use Rattle.plan_text.specs.declared.stop.Stop.{Stop}
 use Rattle.plan_text.specs.declared.stop.Stop.TheVariants.{Text, Pieces, Memory}
-use Rattle.plan_text.specs.declared.written.WrittenToken.{WrittenToken}
-use Rattle.plan_text.specs.declared.written.WrittenKind.{WrittenKind}
-use Rattle.plan_text.specs.declared.written.WrittenPoint.TheVariants.{End}
-use Rattle.plan_text.specs.declared.written.WrittenExtension.{WrittenExtension}
-use Rattle.plan_text.specs.WrittenPlan.{token_names, has_point}
+use Rattle.hs_texts.specs.declared.written.WrittenToken.{WrittenToken}
+use Rattle.hs_texts.specs.declared.written.WrittenKind.{WrittenKind}
+use Rattle.hs_texts.specs.declared.written.WrittenPoint.TheVariants.{End}
+use Rattle.hs_texts.specs.declared.written.WrittenExtension.{WrittenExtension}
+use Rattle.hs_texts.specs.PlanGrammar.{token_names, has_point}
 use Rattle.plan_text.specs.PlanReading.{count_at}
 use Rattle.plan_text.specs.Answers.{Gives}
 use Rattle.plan_text.specs.SoFar.{variable_at, times_named, Counts, names_of_kinds}

@@ -10,8 +10,8 @@ pub mod NumbersLemmas
 pub mod NamingLemmas
 pub mod PlanLemmas
 pub mod OneAnswerLemmas
+pub mod KeptAnswerLemmas
 pub mod CountLemmas
 pub mod MeaningLemmas
 pub mod PlanAnswerLemmas
-pub mod SpellingLemmas
 pub mod CheckedLemmas

@@ -4,7 +4,7 @@ use Rattle.std.specs.Prelude.{Option, Err}
 use Rattle.hs_texts.specs.Pieces.{Piece as Spelling}
 use Rattle.hs_texts.specs.Languages.{Language}
 use Rattle.text_laws.specs.Parsers.{Read, done, stuck, Parser, next}
-use Rattle.plan_text.specs.Kept.{Kept, kept, broken}
+use Rattle.hs_texts.specs.Kept.{Kept, kept, broken}
 use Rattle.plan_text.specs.PlanReading.{series}
 use Rattle.plan_text.specs.Loops.{with_front}
 use Rattle.plan_text.specs.Answers.{Gives, Keeps}
@@ -27,7 +27,7 @@ front_none (done (broken n) rest) = refl
 front_none (stuck rest) = refl
 
 -- a turn that reads an item
-pub turn_more : {A S : Type 0} (test : Option Spelling → Bool) (w : Spelling) (R : S → Language (Kept A)) (p : S → Parser (Kept A)) (step : S → A → S) (F : List Spelling) → AreKept test w R p F → (s : S) (front : List A) (ps rest : List Spelling) (x : A) (whole : Read (Kept (List A))) → test (next ps) ≡ true → p s ps ≡ done (kept x) rest → with_front front (series test p step s ps) ≡ whole → with_front (front ++ x ∷ []) (series test p step (step s x) rest) ≡ whole
+pub turn_more : {A S : Type 0} (test : Option Spelling → Bool) (w : List Spelling) (R : S → Language (Kept A)) (p : S → Parser (Kept A)) (step : S → A → S) (F : List Spelling) → AreKept test w R p F → (s : S) (front : List A) (ps rest : List Spelling) (x : A) (whole : Read (Kept (List A))) → test (next ps) ≡ true → p s ps ≡ done (kept x) rest → with_front front (series test p step s ps) ≡ whole → with_front (front ++ x ∷ []) (series test p step (step s x) rest) ≡ whole
 turn_more test w R p step F a s front ps rest x whole h k e = sym (front_more front x (series test p step (step s x) rest)) ∙ ap (with_front front) (sym (series_more test w R p step F a s ps rest x h k)) ∙ e
 
 -- the turn that finds no item
@@ -35,12 +35,12 @@ pub turn_stop : {A S : Type 0} (test : Option Spelling → Bool) (p : S → Pars
 turn_stop test p step s front ps whole h e = sym e ∙ ap (with_front front) (series_stop test p step s ps h) ∙ ap (λ ys. done (kept ys) ps) (append-nil front)
 
 -- the turn that is stuck in an item
-pub turn_fail : {A S : Type 0} (test : Option Spelling → Bool) (w : Spelling) (R : S → Language (Kept A)) (p : S → Parser (Kept A)) (step : S → A → S) (F : List Spelling) → AreKept test w R p F → (s : S) (front : List A) (ps rest : List Spelling) (whole : Read (Kept (List A))) → test (next ps) ≡ true → p s ps ≡ stuck rest → with_front front (series test p step s ps) ≡ whole → whole ≡ stuck rest
-turn_fail test w R p step F a s front ps rest whole h k e = sym e ∙ ap (with_front front) (series_halt test p step s ps rest a.finds.none h k)
+pub turn_fail : {A S : Type 0} (test : Option Spelling → Bool) (w : List Spelling) (R : S → Language (Kept A)) (p : S → Parser (Kept A)) (step : S → A → S) (F : List Spelling) → AreKept test w R p F → (s : S) (front : List A) (ps rest : List Spelling) (whole : Read (Kept (List A))) → test (next ps) ≡ true → p s ps ≡ stuck rest → with_front front (series test p step s ps) ≡ whole → whole ≡ stuck rest
+turn_fail test w R p step F a s front ps rest whole h k e = sym e ∙ ap (with_front front) (series_halt test p step s ps rest a.none h k)
 
 -- the turn at whose item the text breaks off
-pub turn_break : {A S : Type 0} (test : Option Spelling → Bool) (w : Spelling) (R : S → Language (Kept A)) (p : S → Parser (Kept A)) (step : S → A → S) (F : List Spelling) → AreKept test w R p F → (s : S) (front : List A) (ps rest : List Spelling) (n : ℕ) (whole : Read (Kept (List A))) → test (next ps) ≡ true → p s ps ≡ done (broken n) rest → with_front front (series test p step s ps) ≡ whole → whole ≡ done (broken n) rest
-turn_break test w R p step F a s front ps rest n whole h k e = sym e ∙ ap (with_front front) (series_break test p step s ps rest n a.finds.none h k)
+pub turn_break : {A S : Type 0} (test : Option Spelling → Bool) (w : List Spelling) (R : S → Language (Kept A)) (p : S → Parser (Kept A)) (step : S → A → S) (F : List Spelling) → AreKept test w R p F → (s : S) (front : List A) (ps rest : List Spelling) (n : ℕ) (whole : Read (Kept (List A))) → test (next ps) ≡ true → p s ps ≡ done (broken n) rest → with_front front (series test p step s ps) ≡ whole → whole ≡ done (broken n) rest
+turn_break test w R p step F a s front ps rest n whole h k e = sym e ∙ ap (with_front front) (series_break test p step s ps rest n a.none h k)
 
 -- errors that are handed on
 

@@ -16,14 +16,14 @@ use Rattle.hs_base.specs.Points.{ending, place_of, points_of}
 use Rattle.hs_texts.specs.MissionMeaning.{IsNumberOf}
 use Rattle.hs_texts.specs.MissionRefusals.{unknown_in}
 use Rattle.hs_texts.specs.PlanSpelling.{names_of}
-use Rattle.plan_text.specs.declared.written.WrittenPoint.{WrittenPoint}
-use Rattle.plan_text.specs.declared.written.WrittenPoint.TheVariants.{Origin, Horizon, End}
-use Rattle.plan_text.specs.declared.written.WrittenToken.{WrittenToken}
-use Rattle.plan_text.specs.declared.written.WrittenTime.{WrittenTime}
-use Rattle.plan_text.specs.declared.written.WrittenKind.{WrittenKind}
-use Rattle.plan_text.specs.declared.written.WrittenSupport.{WrittenSupport}
-use Rattle.plan_text.specs.declared.written.WrittenExtension.{WrittenExtension}
-use Rattle.plan_text.specs.PlanSpelling.{TokenMeans, KindMeans, PointMeans, TimeMeans, SupportMeans, ExtensionMeans, ExtensionsMean, unknown_in_point, unknown_in_time, unknown_in_kind, unknown_in_token, unknown_in_support, unknown_in_body, unknown_in_plan}
+use Rattle.hs_texts.specs.declared.written.WrittenPoint.{WrittenPoint}
+use Rattle.hs_texts.specs.declared.written.WrittenPoint.TheVariants.{Origin, Horizon, End}
+use Rattle.hs_texts.specs.declared.written.WrittenToken.{WrittenToken}
+use Rattle.hs_texts.specs.declared.written.WrittenTime.{WrittenTime}
+use Rattle.hs_texts.specs.declared.written.WrittenKind.{WrittenKind}
+use Rattle.hs_texts.specs.declared.written.WrittenSupport.{WrittenSupport}
+use Rattle.hs_texts.specs.declared.written.WrittenExtension.{WrittenExtension}
+use Rattle.hs_texts.specs.PlanSpelling.{TokenMeans, KindMeans, PointMeans, TimeMeans, SupportMeans, ExtensionMeans, ExtensionsMean, unknown_in_point, unknown_in_time, unknown_in_kind, unknown_in_token, unknown_in_support, unknown_in_body, unknown_in_plan}
 use Rattle.plan_text.proofs.NamingLemmas.{both_known}
 
 -- Names that are known.

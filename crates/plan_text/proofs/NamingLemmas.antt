@@ -16,8 +16,9 @@ use Rattle.hs_texts.specs.MissionMeaning.{IsNumberOf}
 use Rattle.hs_texts.specs.MissionRefusals.{unknown_in}
 use Rattle.text_laws.specs.Refused.{OrMemory}
 use Rattle.hs_texts.specs.PlanSpelling.{names_of}
-use Rattle.plan_text.specs.declared.written.WrittenKind.{WrittenKind}
-use Rattle.plan_text.specs.PlanSpelling.{KindMeans, unknown_in_kind, IsFirstUnknown}
+use Rattle.hs_texts.specs.declared.written.WrittenKind.{WrittenKind}
+use Rattle.hs_texts.specs.KeptTexts.{IsFirstUnknown}
+use Rattle.hs_texts.specs.PlanSpelling.{KindMeans, unknown_in_kind}
 use Rattle.plan_text.specs.SoFar.{variable_at, value_at}
 
 -- Where a name stands first.

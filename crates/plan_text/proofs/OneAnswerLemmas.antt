@@ -8,7 +8,7 @@ use Rattle.text_laws.specs.Parsers.{Parser, done, next}
 use Rattle.text_laws.specs.Reads.{Reads}
 use Rattle.text_laws.proofs.ListLemmas.{avoids_none, same_rest}
 use Rattle.text_laws.proofs.AnswerLemmas.{all_taken, spelled_or_expected, spelled_or_trailing, expected_one, expected_or_trailing, trailing_one}
-use Rattle.plan_text.specs.Kept.{Kept, kept, broken, IsBroken, IsRefused, IsBehind}
+use Rattle.hs_texts.specs.Kept.{Kept, kept, broken, IsBroken, IsRefused, IsBehind}
 
 front_read : {A : Type 0} (R : Language A) (p : Parser A) → Reads R p [] → (ps : List Piece) (n : ℕ) (x : A) → R (take n ps) x → p ps ≡ done x (drop n ps)
 front_read R p r ps n x h = ap p (sym (take-append-drop n ps)) ∙ r.complete (take n ps) (drop n ps) x h (avoids_none (next (drop n ps)))

@@ -7,7 +7,7 @@ use Rattle.text_laws.specs.Parsers.{done, stuck, Parser, next, go_on, ◌>>=◌}
 use Rattle.text_laws.specs.Reads.{Avoids, HasRead, IsStuck, Lives, Reads, Leads}
 use Rattle.text_laws.proofs.ListLemmas.{split_at, next_same, went_on, got_stuck, same_value, same_rest, not_both, avoids_none}
 use Rattle.text_laws.proofs.ParserLemmas.{yields_reads}
-use Rattle.plan_text.specs.Kept.{Kept, kept, broken, onward}
+use Rattle.hs_texts.specs.Kept.{Kept, kept, broken, onward}
 use Rattle.plan_text.specs.PlanReading.{onward_at}
 
 -- where a sentence of S follows, p reads R before it as far as it reaches

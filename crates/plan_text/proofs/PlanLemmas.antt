@@ -4,14 +4,14 @@ use Rattle.std.specs.Prelude.{flat_map}
 use Rattle.hs_base.specs.declared.plan.Extension.{Extension}
 use Rattle.hs_base.specs.declared.mission.Mission.{Mission}
 use Rattle.hs_base.specs.Points.{points_of}
-use Rattle.plan_text.specs.declared.written.WrittenExtension.{WrittenExtension}
+use Rattle.hs_texts.specs.declared.written.WrittenExtension.{WrittenExtension}
 use Rattle.plan_text.specs.declared.numbers.PointNumbers.{PointNumbers}
 use Rattle.std.proofs.lemmas.List.{take_more}
 use Rattle.plan_text.specs.Named.{with_extension}
 use Rattle.plan_text.proofs.NamedLemmas.{with_extension-points_of}
 use Rattle.plan_text.proofs.NamingLemmas.{known_push}
 use Rattle.plan_text.specs.Numbers.{AreNumbers}
-use Rattle.plan_text.specs.PlanSpelling.{ExtensionMeans, ExtensionsMean, unknown_in_body}
+use Rattle.hs_texts.specs.PlanSpelling.{ExtensionMeans, ExtensionsMean, unknown_in_body}
 
 -- those before place i are looked up
 pub record PlanLookedUp (m : Mission) (ws : List WrittenExtension) (i : ℕ) (es : List Extension) (n : PointNumbers) : Type 0 where

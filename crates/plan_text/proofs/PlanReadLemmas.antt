@@ -1,5 +1,5 @@
 -- Each nonterminal of a plan's text is read by its parser.
-use Rattle.std.proofs.Common.{◌≡◌, ℕ, ◌+◌, ℤ, List, [], ◌∷◌, ◌++◌, Bool, true, false, cond, refl, ap, subst}
+use Rattle.std.proofs.Common.{◌≡◌, ℕ, ◌+◌, ℤ, List, [], ◌∷◌, ◌++◌, Bool, true, false, cond, refl, ap, ◌∙◌, subst}
 use Rattle.std.specs.Prelude.{Some, None, codes}
 use Rattle.std.specs.List.{list_any}
 use Prim.Native.String.{String}
@@ -8,26 +8,27 @@ use Rattle.hs_base.specs.Names.{is_name}
 use Rattle.hs_texts.specs.Pieces.{Piece, word, number as digits, symbol}
 use Rattle.hs_texts.specs.Languages.{Language, Yields, Then, ◌∣◌, Many, Keyword, Number, After}
 use Rattle.hs_texts.specs.MissionText.{name_says}
-use Rattle.hs_texts.specs.WrittenPlan.{Name, count_says, Count}
+use Rattle.hs_texts.specs.PlanGrammar.{Name, count_says, Count}
 use Rattle.text_laws.specs.Parsers.{Parser, next, ◌>>=◌, yields, is_word, choose, many, keyword, number, after}
 use Rattle.text_laws.specs.Reads.{Avoids, Reads, Leads, BeginsWith}
 use Rattle.text_laws.specs.MissionReading.{name_at}
 use Rattle.text_laws.proofs.ParserLemmas.{one_reads, yields_reads}
 use Rattle.text_laws.proofs.ThenLemmas.{then_reads, then_any}
-use Rattle.text_laws.proofs.ChoiceLemmas.{choose_reads}
+use Rattle.text_laws.proofs.ChoiceLemmas.{choose_reads, not_found, begins_next}
+use Rattle.text_laws.proofs.ListLemmas.{avoids_none}
 use Rattle.text_laws.proofs.ManyLemmas.{AreItems, many_reads}
 use Rattle.text_laws.proofs.FollowLemmas.{same_piece, avoids_test, leads_begin, leads_either, leads_then, leads_many, begins_then, begins_keyword, keyword_reads, number_reads, finds_word, after_reads, keyed_items}
 use Rattle.text_laws.proofs.MissionLemmas.{kw, name_reads}
-use Rattle.plan_text.specs.declared.written.WrittenPoint.{WrittenPoint}
-use Rattle.plan_text.specs.declared.written.WrittenPoint.TheVariants.{Origin}
-use Rattle.plan_text.specs.declared.written.WrittenToken.{WrittenToken}
-use Rattle.plan_text.specs.declared.written.WrittenTime.{WrittenTime}
-use Rattle.plan_text.specs.declared.written.WrittenKind.{WrittenKind}
-use Rattle.plan_text.specs.declared.written.WrittenSupport.{WrittenSupport}
-use Rattle.plan_text.specs.declared.written.WrittenBody.{WrittenBody}
-use Rattle.plan_text.specs.declared.written.WrittenExtension.{WrittenExtension}
-use Rattle.plan_text.specs.Kept.{Kept, broken, onward, Series}
-use Rattle.plan_text.specs.WrittenPlan.{may_be_fixed, point_size, Exactly, OneMore, TokenText, HorizonPoint, EndPoint, PointText, FixedAt, FixText, NewTokenText, SupportText, GoalToken, GoalText, BodyEnd, BodyBack, BodyText, Extended, ExtensionBack, ExtensionText, PlanEnd, PlanBack, PlanText}
+use Rattle.hs_texts.specs.declared.written.WrittenPoint.{WrittenPoint}
+use Rattle.hs_texts.specs.declared.written.WrittenPoint.TheVariants.{Origin}
+use Rattle.hs_texts.specs.declared.written.WrittenToken.{WrittenToken}
+use Rattle.hs_texts.specs.declared.written.WrittenTime.{WrittenTime}
+use Rattle.hs_texts.specs.declared.written.WrittenKind.{WrittenKind}
+use Rattle.hs_texts.specs.declared.written.WrittenSupport.{WrittenSupport}
+use Rattle.hs_texts.specs.declared.written.WrittenBody.{WrittenBody}
+use Rattle.hs_texts.specs.declared.written.WrittenExtension.{WrittenExtension}
+use Rattle.hs_texts.specs.Kept.{Kept, broken, onward, Series}
+use Rattle.hs_texts.specs.PlanGrammar.{may_be_fixed, point_size, Exactly, OneMore, TokenText, HorizonPoint, EndPoint, PointText, FixedAt, FixText, NewTokenText, SupportText, GoalToken, GoalText, BodyEnd, BodyBack, BodyText, Extended, ExtensionBack, ExtensionText, PlanEnd, PlanBack, PlanGrammar}
 use Rattle.plan_text.specs.PlanReading.{onward_at, series, count_at, exactly_at, one_more_at, token_at, horizon_point_at, end_point_at, point_at, fixed_at, fix_at, new_token_at, support_at, goal_token_at, goal_at, body_end_at, fixed_points_at, goals_at, body_back_at, body_at, extended_at, extension_back_at, extension_at, plan_end_at, extensions_at, plan_back_at, plan_at}
 use Rattle.plan_text.proofs.OnwardLemmas.{onward_each, onward_reads}
 use Rattle.plan_text.proofs.SeriesLemmas.{AreKept, series_kept, leads_series}
@@ -38,11 +39,11 @@ pub count_reads : Reads Count count_at []
 unfolding count_at
 count_reads = one_reads count_says (record { pieces = digits [] ∷ []; value = 0; sentence = (digits [], refl, refl) })
 
-exactly_reads : (n : ℕ) → Reads (Exactly n) (exactly_at n) []
+pub exactly_reads : (n : ℕ) → Reads (Exactly n) (exactly_at n) []
 unfolding exactly_at
 exactly_reads n = then_any Count _ count_at _ [] count_reads (λ k. yields_reads _)
 
-one_more_reads : Reads OneMore one_more_at []
+pub one_more_reads : Reads OneMore one_more_at []
 unfolding one_more_at
 one_more_reads = then_any Count _ count_at _ [] count_reads (λ k. yields_reads _)
 
@@ -129,11 +130,17 @@ goal_reads n =
 
 -- Items.
 
-begins_word : {A : Type 0} (w : String) (S : Unit {0} → Language A) → BeginsWith (Then (Keyword w) S) (kw w)
+pub begins_word : {A : Type 0} (w : String) (S : Unit {0} → Language A) → BeginsWith (Then (Keyword w) S) (kw w)
 begins_word w S = begins_then (Keyword w) S (kw w) (begins_keyword w)
 
-keyed_series : {A S : Type 0} (w : String) (R : S → Language (Kept A)) (p : S → Parser (Kept A)) → ((s : S) → BeginsWith (R s) (kw w)) → ((s : S) → Reads (R s) (p s) []) → AreKept (is_word (codes w)) (kw w) R p []
-keyed_series w R p b r = record { finds = finds_word w; begins = b; reads = r; behind = tt }
+keyed_series : {A S : Type 0} (w : String) (R : S → Language (Kept A)) (p : S → Parser (Kept A)) → ((s : S) → BeginsWith (R s) (kw w)) → ((s : S) → Reads (R s) (p s) []) → AreKept (is_word (codes w)) (kw w ∷ []) R p []
+keyed_series w R p b r = record {
+  none = refl;
+  begins = λ s u rest v h. ap (is_word (codes w)) (begins_next (R s) (kw w) (b s) u rest v h) ∙ (finds_word w).here;
+  reads = r;
+  behind = λ o h. avoids_none o;
+  stops = λ o a. (not_found (is_word (codes w)) (kw w) (finds_word w) o a, avoids_none o);
+}
 
 pub new_token_items : AreItems (is_word (codes "token")) (kw "token") NewTokenText new_token_at []
 new_token_items = keyed_items "token" NewTokenText new_token_at [] (begins_word "token" _) new_token_reads refl
@@ -141,10 +148,10 @@ new_token_items = keyed_items "token" NewTokenText new_token_at [] (begins_word 
 pub support_items : AreItems (is_word (codes "support")) (kw "support") SupportText support_at []
 support_items = keyed_items "support" SupportText support_at [] (begins_word "support" _) support_reads refl
 
-pub fix_series : (m : Mission) → AreKept (is_word (codes "fix")) (kw "fix") (FixText m) (fix_at m) []
+pub fix_series : (m : Mission) → AreKept (is_word (codes "fix")) (kw "fix" ∷ []) (FixText m) (fix_at m) []
 fix_series m = keyed_series "fix" (FixText m) (fix_at m) (λ es. begins_word "fix" _) (fix_reads m)
 
-pub goal_series : AreKept (is_word (codes "goal")) (kw "goal") GoalText goal_at []
+pub goal_series : AreKept (is_word (codes "goal")) (kw "goal" ∷ []) GoalText goal_at []
 goal_series = keyed_series "goal" GoalText goal_at (λ n. begins_word "goal" _) goal_reads
 
 -- Bodies.
@@ -160,7 +167,7 @@ goals_back_reads : (since : ℤ) (fixed : List WrittenTime) (tokens : List Writt
 unfolding goals_at
 goals_back_reads since fixed tokens supports =
     onward_reads (Series GoalText (λ n goal. n + 1) 0) (BodyEnd since fixed tokens supports) (series (is_word (codes "goal")) goal_at (λ n goal. n + 1) 0) (body_end_at since fixed tokens supports) (kw "goal" ∷ [])
-    (series_kept (is_word (codes "goal")) (kw "goal") GoalText goal_at (λ n goal. n + 1) goal_series 0)
+    (series_kept (is_word (codes "goal")) (kw "goal" ∷ []) GoalText goal_at (λ n goal. n + 1) goal_series 0)
     (λ goals. leads_begin (BodyEnd since fixed tokens supports goals) (kw "close") [] (kw "goal" ∷ []) (begins_word "close" _) refl)
     (body_end_reads since fixed tokens supports)
 
@@ -186,7 +193,7 @@ fixed_points_back : (m : Mission) (es : List WrittenExtension) (since : ℤ) →
 unfolding fixed_points_at
 fixed_points_back m es since =
     onward_reads (Series (FixText m) (λ before time. before) es) (BodyBack since) (series (is_word (codes "fix")) (fix_at m) (λ before time. before) es) (body_back_at since) (kw "fix" ∷ [])
-    (series_kept (is_word (codes "fix")) (kw "fix") (FixText m) (fix_at m) (λ before time. before) (fix_series m) es)
+    (series_kept (is_word (codes "fix")) (kw "fix" ∷ []) (FixText m) (fix_at m) (λ before time. before) (fix_series m) es)
     (body_back_lead since)
     (body_back_reads since)
 
@@ -212,7 +219,7 @@ extension_reads m es =
     then_any (Keyword "extension") _ (keyword "extension") _ [] (keyword_reads "extension") (λ _.
     then_any OneMore (onward (ExtensionBack m es)) one_more_at (onward_at (extension_back_at m es)) [] one_more_reads (onward_each (ExtensionBack m es) (extension_back_at m es) (extension_back_reads m es)))
 
-pub extension_series : (m : Mission) → AreKept (is_word (codes "extension")) (kw "extension") (ExtensionText m) (extension_at m) []
+pub extension_series : (m : Mission) → AreKept (is_word (codes "extension")) (kw "extension" ∷ []) (ExtensionText m) (extension_at m) []
 extension_series m = keyed_series "extension" (ExtensionText m) (extension_at m) (λ es. begins_word "extension" _) (extension_reads m)
 
 plan_end_reads : (es : List WrittenExtension) → Reads (PlanEnd es) (plan_end_at es) []
@@ -223,12 +230,12 @@ plan_back_reads : (m : Mission) (u : Unit {0}) → Reads (PlanBack m u) (plan_ba
 unfolding plan_back_at extensions_at
 plan_back_reads m u =
     onward_reads (Series (ExtensionText m) (λ before e. before ++ e ∷ []) []) PlanEnd (series (is_word (codes "extension")) (extension_at m) (λ before e. before ++ e ∷ []) []) plan_end_at (kw "extension" ∷ [])
-    (series_kept (is_word (codes "extension")) (kw "extension") (ExtensionText m) (extension_at m) (λ before e. before ++ e ∷ []) (extension_series m) [])
+    (series_kept (is_word (codes "extension")) (kw "extension" ∷ []) (ExtensionText m) (extension_at m) (λ before e. before ++ e ∷ []) (extension_series m) [])
     (λ es. leads_begin (PlanEnd es) (kw "end") [] (kw "extension" ∷ []) (begins_word "end" _) refl)
     plan_end_reads
 
 -- a plan's text is read from left to right
-pub plan_reads : (m : Mission) → Reads (PlanText m) (plan_at m) []
+pub plan_reads : (m : Mission) → Reads (PlanGrammar m) (plan_at m) []
 unfolding plan_at
 plan_reads m =
     then_any (Keyword "hsts") _ (keyword "hsts") _ [] (keyword_reads "hsts") (λ _.

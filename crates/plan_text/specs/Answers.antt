@@ -6,7 +6,7 @@ use Rattle.ddl_read.specs.declared.unread.Unread.{Unread}
 use Rattle.ddl_read.specs.declared.unread.Unread.TheVariants.{Text as NoText, Memory as NoMemory}
 use Rattle.plan_text.specs.declared.stop.Stop.{Stop}
 use Rattle.plan_text.specs.declared.stop.Stop.TheVariants.{Text, Pieces, Memory}
-use Rattle.plan_text.specs.Kept.{Kept, kept, broken}
+use Rattle.hs_texts.specs.Kept.{Kept, kept, broken}
 
 abbrev pub stop_of : Unread → Stop
 stop_of NoText = Text

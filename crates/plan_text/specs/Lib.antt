@@ -1,10 +1,7 @@
 pub mod Named
-pub mod Kept
-pub mod WrittenPlan
 pub mod PlanReading
 pub mod Answers
 pub mod SoFar
 pub mod Loops
-pub mod PlanSpelling
 pub mod Numbers
 pub mod Naming

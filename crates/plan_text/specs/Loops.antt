@@ -1,7 +1,7 @@
 -- Loops that read items at which the text may break off.
 use Rattle.std.specs.Prelude.{List, ◌++◌}
 use Rattle.text_laws.specs.Parsers.{Read, go_on, yields}
-use Rattle.plan_text.specs.Kept.{Kept, kept, broken}
+use Rattle.hs_texts.specs.Kept.{Kept, kept, broken}
 
 abbrev pub prepend : {A : Type 0} → List A → Kept (List A) → Kept (List A)
 prepend front (kept xs) = kept (front ++ xs)

@@ -2,7 +2,7 @@
 use Rattle.std.specs.Prelude.{◌≡◌, ℕ, List, [], Result, Ok, Err}
 use Rattle.hs_texts.specs.declared.refusal.Refusal.{Refusal}
 use Rattle.text_laws.specs.Refused.{OrMemory}
-use Rattle.plan_text.specs.PlanSpelling.{IsFirstUnknown}
+use Rattle.hs_texts.specs.KeptTexts.{IsFirstUnknown}
 
 -- none of the names is unknown and the answer is what P says, or the refusal gives the first of them
 abbrev pub Resolves : {X : Type 0} → Result X Refusal → List (List ℕ) → (X → Type 0) → Type 0

@@ -2,19 +2,19 @@
 use Rattle.std.specs.Prelude.{ℕ, zero, suc, ◌+◌, ◌-◌, nat_eq, ℤ, Bool, cond, List, [], ◌∷◌, ◌++◌, length, Option, codes}
 use Rattle.hs_base.specs.declared.mission.Mission.{Mission}
 use Rattle.hs_texts.specs.Pieces.{Piece}
-use Rattle.hs_texts.specs.WrittenPlan.{count_says}
+use Rattle.hs_texts.specs.PlanGrammar.{count_says}
 use Rattle.text_laws.specs.Parsers.{done, Parser, next, go_on, ◌>>=◌, yields, one, is_word, choose, many, keyword, number, after}
 use Rattle.text_laws.specs.MissionReading.{name_at}
-use Rattle.plan_text.specs.declared.written.WrittenPoint.{WrittenPoint}
-use Rattle.plan_text.specs.declared.written.WrittenPoint.TheVariants.{Origin, Horizon, End}
-use Rattle.plan_text.specs.declared.written.WrittenToken.{WrittenToken}
-use Rattle.plan_text.specs.declared.written.WrittenTime.{WrittenTime}
-use Rattle.plan_text.specs.declared.written.WrittenKind.{WrittenKind}
-use Rattle.plan_text.specs.declared.written.WrittenSupport.{WrittenSupport}
-use Rattle.plan_text.specs.declared.written.WrittenBody.{WrittenBody}
-use Rattle.plan_text.specs.declared.written.WrittenExtension.{WrittenExtension}
-use Rattle.plan_text.specs.Kept.{Kept, kept, broken}
-use Rattle.plan_text.specs.WrittenPlan.{may_be_fixed, point_size}
+use Rattle.hs_texts.specs.declared.written.WrittenPoint.{WrittenPoint}
+use Rattle.hs_texts.specs.declared.written.WrittenPoint.TheVariants.{Origin, Horizon, End}
+use Rattle.hs_texts.specs.declared.written.WrittenToken.{WrittenToken}
+use Rattle.hs_texts.specs.declared.written.WrittenTime.{WrittenTime}
+use Rattle.hs_texts.specs.declared.written.WrittenKind.{WrittenKind}
+use Rattle.hs_texts.specs.declared.written.WrittenSupport.{WrittenSupport}
+use Rattle.hs_texts.specs.declared.written.WrittenBody.{WrittenBody}
+use Rattle.hs_texts.specs.declared.written.WrittenExtension.{WrittenExtension}
+use Rattle.hs_texts.specs.Kept.{Kept, kept, broken}
+use Rattle.hs_texts.specs.PlanGrammar.{may_be_fixed, point_size}
 
 -- goes on behind a value
 abbrev pub onward_at : {A B : Type 0} → (A → Parser (Kept B)) → Kept A → Parser (Kept B)

@@ -5,8 +5,8 @@ use Rattle.std.specs.Str.{bytes_eq}
 use Rattle.hs_base.specs.declared.mission.Mission.{Mission}
 use Rattle.hs_base.specs.declared.mission.Value.{Value}
 use Rattle.hs_base.specs.declared.mission.Var.{Var}
-use Rattle.plan_text.specs.declared.written.WrittenKind.{WrittenKind}
-use Rattle.plan_text.specs.declared.written.WrittenExtension.{WrittenExtension}
+use Rattle.hs_texts.specs.declared.written.WrittenKind.{WrittenKind}
+use Rattle.hs_texts.specs.declared.written.WrittenExtension.{WrittenExtension}
 
 -- the extensions of a mission's plan
 pub record SoFar : Type 0 where

@@ -8,14 +8,14 @@ ghost use Rattle.hs_base.specs.Checked.{Checked};
 ghost use Rattle.hs_texts.specs.PlanText.{plan_text};
 ghost use Rattle.text_laws.specs.Reads.{Reads};
 ghost use Rattle.text_laws.specs.WritablePlans.{IsWritablePlan};
-ghost use Rattle.plan_text.specs.WrittenPlan.{PlanText};
+ghost use Rattle.hs_texts.specs.PlanGrammar.{PlanGrammar};
 ghost use Rattle.plan_text.specs.PlanReading.{plan_at};
-ghost use Rattle.plan_text.specs.PlanSpelling.{PlanSpells, IsPlanRefusal};
+ghost use Rattle.hs_texts.specs.PlanSpelling.{PlanSpells, IsPlanRefusal};
 
 /// Plans are read from left to right: what is read is spelled, what is spelled is read, and
 /// reading stops at the first piece with which no plan goes on.
 pub fn plans_are_read()
-    ensures { (m : Mission) → Reads (PlanText m) (plan_at m) [] }
+    ensures { (m : Mission) → Reads (PlanGrammar m) (plan_at m) [] }
 {}
 
 /// A text spells one plan of a mission at most.

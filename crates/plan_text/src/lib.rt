@@ -14,7 +14,6 @@ mod read_plan;
 mod reader;
 mod reading;
 mod stop;
-mod written;
 mod written_plan;
 
 pub use body::push_body;
@@ -31,8 +30,4 @@ pub use plans::{point_text, write};
 pub use read_plan::read;
 pub use reader::PlanReader;
 pub use stop::Stop;
-pub use written::{
-    WrittenBody, WrittenExtension, WrittenKind, WrittenPoint, WrittenSupport, WrittenTime,
-    WrittenToken,
-};
 pub use written_plan::WrittenPlan;

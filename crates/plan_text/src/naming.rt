@@ -5,18 +5,20 @@ ghost use Rattle.hs_base.specs.Points.{points_of};
 ghost use Rattle.hs_texts.specs.MissionMeaning.{IsNumberOf};
 ghost use Rattle.hs_texts.specs.MissionRefusals.{unknown_in};
 ghost use Rattle.hs_texts.specs.PlanSpelling.{names_of};
-ghost use Rattle.plan_text.specs.PlanSpelling.{TokenMeans, KindMeans, PointMeans, TimeMeans, SupportMeans, ExtensionMeans, ExtensionsMean, unknown_in_point, unknown_in_time, unknown_in_kind, unknown_in_token, unknown_in_support, unknown_in_body, unknown_in_plan};
+ghost use Rattle.hs_texts.specs.PlanSpelling.{TokenMeans, KindMeans, PointMeans, TimeMeans, SupportMeans, ExtensionMeans, ExtensionsMean, unknown_in_point, unknown_in_time, unknown_in_kind, unknown_in_token, unknown_in_support, unknown_in_body, unknown_in_plan};
 ghost use Rattle.plan_text.specs.SoFar.{value_at as value_at_spec};
 ghost use Rattle.plan_text.specs.Numbers.{AreNumbers};
 ghost use Rattle.plan_text.specs.Naming.{Resolves};
 
 use crate::numbers::PointNumbers;
-use crate::written::{
-    WrittenExtension, WrittenKind, WrittenPoint, WrittenSupport, WrittenTime, WrittenToken,
-};
 use crate::written_plan::variable_at;
-use hs_base::{Copies, Extension, Kind, List, Memory, Mission, Name, Plan, PointId, Support, SvId, Time, TokenRef, ValId, Value};
-use hs_texts::Refusal;
+use hs_base::{
+    Copies, Extension, Kind, List, Memory, Mission, Name, Plan, PointId, Support, SvId, Time,
+    TokenRef, ValId, Value,
+};
+use hs_texts::{
+    Refusal, WrittenExtension, WrittenKind, WrittenPoint, WrittenSupport, WrittenTime, WrittenToken,
+};
 use std::alloc::Global;
 
 /// Where the first value of this name stands.

@@ -4,7 +4,7 @@ ghost use Rattle.hs_base.specs.Points.{count};
 ghost use Rattle.hs_texts.specs.PlanText.{extension_in, plan_text};
 ghost use Rattle.hs_texts.specs.Written.{point_text as text_of_point};
 ghost use Rattle.text_laws.specs.WritablePlans.{IsWritablePlan};
-ghost use Rattle.plan_text.specs.PlanSpelling.{PlanSpells};
+ghost use Rattle.hs_texts.specs.PlanSpelling.{PlanSpells};
 
 use crate::PointNames;
 use crate::body::push_body;

@@ -3,9 +3,9 @@ ghost use Rattle.plan_text.specs.Answers.{Keeps};
 
 use crate::reader::PlanReader;
 use crate::stop::Stop;
-use crate::written::{WrittenBody, WrittenExtension, WrittenTime, WrittenToken};
 use crate::written_plan::WrittenPlan;
 use hs_base::{List, Mission};
+use hs_texts::{WrittenBody, WrittenExtension, WrittenTime, WrittenToken};
 use std::alloc::Global;
 
 impl<'a> PlanReader<'a> {

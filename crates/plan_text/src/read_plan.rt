@@ -1,6 +1,6 @@
 ghost use Rattle.std.specs.Prelude.{MatchResult};
 ghost use Rattle.text_laws.specs.Refused.{OrMemory};
-ghost use Rattle.plan_text.specs.PlanSpelling.{PlanSpells, IsPlanRefusal};
+ghost use Rattle.hs_texts.specs.PlanSpelling.{PlanSpells, IsPlanRefusal};
 
 use crate::naming::plan_of;
 use crate::reading::read_written;

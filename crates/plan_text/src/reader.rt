@@ -6,9 +6,9 @@ ghost use Rattle.plan_text.specs.PlanReading.{count_at, exactly_at, one_more_at,
 ghost use Rattle.plan_text.specs.Answers.{Gives, Keeps};
 
 use crate::stop::Stop;
-use crate::written::{WrittenKind, WrittenPoint, WrittenSupport, WrittenToken};
 use ddl_read::Reader;
 use hs_base::{List, Memory, Name};
+use hs_texts::{WrittenKind, WrittenPoint, WrittenSupport, WrittenToken};
 use std::alloc::Global;
 use std::marker::Model;
 

@@ -2,14 +2,13 @@ ghost use Rattle.std.specs.Prelude.{◌≡◌, ◌-◌, ◌≤◌, ◌<◌, ◌^
 ghost use Rattle.hs_texts.specs.Pieces.{place_in};
 ghost use Rattle.text_laws.specs.Refused.{OrMemory};
 ghost use Rattle.ddl_read.specs.Spelled.{placed};
-ghost use Rattle.plan_text.specs.PlanSpelling.{IsPlanText, IsTextRefusal};
+ghost use Rattle.hs_texts.specs.PlanSpelling.{IsPlanText, IsTextRefusal};
 
 use crate::reader::PlanReader;
 use crate::stop::Stop;
-use crate::written::WrittenExtension;
 use ddl_read::Pieces;
 use hs_base::{List, Mission};
-use hs_texts::Refusal;
+use hs_texts::{Refusal, WrittenExtension};
 use std::alloc::Global;
 
 /// The place of the piece before the last `left` of so many pieces.

@@ -1,10 +1,10 @@
 ghost use Rattle.std.specs.Prelude.{◌≡◌, ℕ, List, ◌∷◌, ◌++◌, ◌+◌, [], OnOk, IfOk, slice_get};
-ghost use Rattle.plan_text.specs.WrittenPlan.{has_point, may_be_fixed as may_be_fixed_spec, point_size as point_size_spec};
-ghost use Rattle.plan_text.specs.declared.written.WrittenPoint.TheVariants.{End, Horizon};
+ghost use Rattle.hs_texts.specs.PlanGrammar.{has_point, may_be_fixed as may_be_fixed_spec};
+ghost use Rattle.hs_texts.specs.declared.written.WrittenPoint.TheVariants.{End, Horizon};
 ghost use Rattle.plan_text.specs.SoFar.{Counts, variable_at as variable_at_spec, names_of_kinds};
 
-use crate::written::{WrittenExtension, WrittenKind, WrittenPoint, WrittenToken};
 use hs_base::{List, Memory, Mission, Name, Var};
+use hs_texts::{WrittenExtension, WrittenKind, WrittenPoint, WrittenToken};
 use std::alloc::Global;
 use std::marker::Model;
 
@@ -18,7 +18,7 @@ pub struct WrittenPlan<'a> {
 }
 
 impl<'a> Model for WrittenPlan<'a> {
-    ghost use Rattle.plan_text.specs.WrittenPlan.{token_names};
+    ghost use Rattle.hs_texts.specs.PlanGrammar.{token_names};
     ghost use Rattle.plan_text.specs.SoFar.{SoFar, Counts};
 
     ghost Value = { SoFar };
@@ -69,19 +69,6 @@ fn count_all(vars: &[Var], counts: &mut Vec<usize>, tokens: &[WrittenKind]) -> R
         count_one(vars, counts, &token.sv)?;
     }
     Ok(())
-}
-
-impl WrittenPoint {
-    /// The number of pieces of its text.
-    pub fn size(&self) -> u32
-        ensures { result ≡ point_size_spec self.now }
-    {
-        match self {
-            WrittenPoint::Origin => 1,
-            WrittenPoint::Horizon(_) => 2,
-            WrittenPoint::End(_) => 2,
-        }
-    }
 }
 
 impl<'a> WrittenPlan<'a> {

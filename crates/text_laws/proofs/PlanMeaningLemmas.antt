@@ -1,5 +1,5 @@
 -- What a plan's text writes means the plan, and keeps the rules on points.
-use Rattle.std.proofs.Common.{◌≡◌, ◌≤◌, ℕ, zero, suc, ◌+◌, ◌<◌, Bool, true, false, not, ◌||◌, List, [], ◌∷◌, ◌++◌, length, map, filter, refl, sym, ap, ◌∙◌, subst, length-append, nat_eq, inl, inr, arith}
+use Rattle.std.proofs.Common.{◌≡◌, ◌≤◌, ℕ, zero, suc, ◌+◌, ◌<◌, Bool, true, false, not, ◌||◌, List, [], ◌∷◌, ◌++◌, length, map, filter, refl, sym, ap, ◌∙◌, subst, nat_eq, inl, inr, arith}
 use Rattle.std.specs.Prelude.{Some, slice_get, nat_lt, nat_le, option_map}
 use Rattle.std.specs.List.{AllByRecursion, AllZip, list_any}
 use Rattle.std.specs.Str.{bytes_eq}
@@ -20,12 +20,13 @@ use Rattle.hs_texts.specs.MissionMeaning.{IsNumberOf}
 use Rattle.hs_base.specs.Walks.{EachAfter, join_after, AreDifferent}
 use Rattle.hs_base.specs.Points.{Point, origin, horizon, ending, same_point, count, points_of, new_points, tokens_of, timeline_of, refs_after}
 use Rattle.hs_texts.specs.Written.{variable_name, value_name}
-use Rattle.hs_texts.specs.WrittenPlan.{WrittenPoint, WrittenKind}
-use Rattle.hs_texts.specs.WrittenRules.{has_point as has_point_test, Reached, reached_with, may_be_fixed, is_variable, fix_breaks, extension_breaks, fix_size, body_size}
-use Rattle.hs_texts.specs.PlanSpelling.{names_of, TokenMeans, NewTokenMeans, PointMeans, FixMeans, SupportMeans, BodyMeans, ExtensionsMean}
-use Rattle.text_laws.specs.WritablePlans.{IsWritableToken, IsWritableSupport, written_token, written_point, written_at, written_fix, written_kind, written_support, written_body, written_extensions}
+use Rattle.hs_texts.specs.declared.written.WrittenPoint.{WrittenPoint}
+use Rattle.hs_texts.specs.declared.written.WrittenKind.{WrittenKind}
+use Rattle.hs_texts.specs.PlanGrammar.{has_point as has_point_test, may_be_fixed, is_variable, token_names}
+use Rattle.hs_texts.specs.PlanSpelling.{names_of, TokenMeans, KindMeans, PointMeans, TimeMeans, SupportMeans, ExtensionMeans, ExtensionsMean}
+use Rattle.text_laws.specs.WritablePlans.{IsWritableToken, IsWritableSupport, written_token, written_point, written_at, written_time, written_kind, written_support, written_extension, written_extensions, written_plan}
 use Rattle.base_laws.proofs.ListLemmas.{each_at, in_order}
-use Rattle.base_laws.proofs.PointLemmas.{named, tokens-push, place_within}
+use Rattle.base_laws.proofs.PointLemmas.{named, place_within}
 use Rattle.text_laws.proofs.PlanPrintedLemmas.{has_variable, variable_is, HasValue, has_value, value_is, IsWritablePoint, HasPoint, written_at_is}
 
 -- Names and numbers.
@@ -54,7 +55,7 @@ value_number m k i h =
 token_means : (m : Mission) (t : TokenRef) → IsMission m → IsWritableToken m t → TokenMeans m (written_token m t) t
 token_means m t i h = record { sv = variable_number m t.sv.0 i h.known; place = refl }
 
-kind_means : (m : Mission) (k : Kind) → IsMission m → IsKindOf m.vars k → NewTokenMeans m (written_kind m k) k
+kind_means : (m : Mission) (k : Kind) → IsMission m → IsKindOf m.vars k → KindMeans m (written_kind m k) k
 kind_means m k i h =
     let v = has_value m k h in
     record { sv = variable_number m k.sv.0 i (slice_get_within m.vars k.sv.0 v.var v.there); var = v.var; there = v.there; value = value_number m k i v }
@@ -67,8 +68,8 @@ point_means m before p origin i h there = sym ((named before).once p origin ther
 point_means m before p (horizon k) i h there = sym ((named before).once p (horizon k) there)
 point_means m before p (ending v j) i h there = (v, variable_number m v i h.0, sym ((named before).once p (ending v j) there))
 
-fix_means : (m : Mission) (before : List Extension) (t : Time) → IsMission m → HasPoint m (points_of before) t.point.0 → FixMeans m before (written_fix m (points_of before) t) t
-fix_means m before t i h =
+time_means : (m : Mission) (before : List Extension) (t : Time) → IsMission m → HasPoint m (points_of before) t.point.0 → TimeMeans m before (written_time m (points_of before) t) t
+time_means m before t i h =
     let value = written_at_is m (points_of before) t.point.0 h in
     record { point = subst (λ (w : WrittenPoint). PointMeans m before w t.point.0) (sym value) (point_means m before t.point.0 h.point i h.writable h.there); at = refl }
 
@@ -155,10 +156,6 @@ has_point m before p known few sizes h = elim (slice_get_cases (points_of before
 
 -- Rules.
 
--- how far a plan has come
-abbrev pub reached : Mission → List Extension → Reached
-reached m before = record { extensions = length before; tokens = map (λ (k : Kind). variable_name m k.sv.0) (tokens_of before) }
-
 -- as many tokens are of a variable's name as are of the variable
 timeline_named : (m : Mission) (ts : List Kind) (v : ℕ) → length (timeline_of ts v) ≤ length (filter (bytes_eq (variable_name m v)) (map (λ (k : Kind). variable_name m k.sv.0) ts))
 timeline_named m [] v = omega arith
@@ -179,35 +176,6 @@ either_true : (a b : Bool) → b ≡ true → (a || b) ≡ true
 either_true true b h = refl
 either_true false b h = h
 
--- the plan has its points
-pub point_had : (m : Mission) (before : List Extension) (p : ℕ) (point : Point) → slice_get (points_of before) p ≡ Some point → has_point_test m (reached m before) (written_point m point) ≡ true
-point_had m before p origin there = refl
-point_had m before p (horizon k) there =
-    let low : nat_le 1 k ≡ true = grind (arith, nat_tests, horizon_some before p k there) in
-    let high : nat_le k (length before) ≡ true = grind (arith, nat_tests, horizon_few before p k there) in
-    rw (low, high) refl
-point_had m before p (ending v i) there =
-    let few : i < length (filter (bytes_eq (variable_name m v)) (map (λ (k : Kind). variable_name m k.sv.0) (tokens_of before))) = omega (arith, ending_few before p v i there, timeline_named m (tokens_of before) v) in
-    let test : nat_lt i (length (filter (bytes_eq (variable_name m v)) (map (λ (k : Kind). variable_name m k.sv.0) (tokens_of before)))) ≡ true = grind (arith, nat_tests) in
-    either_true (not (is_variable m (variable_name m v))) _ test
-
-point_may_be_fixed : (m : Mission) (before : List Extension) (p : ℕ) (point : Point) → 0 < p → slice_get (points_of before) p ≡ Some point → may_be_fixed m (reached m before) (written_point m point) ≡ true
-point_may_be_fixed m before p origin some there = absurd (omega (arith, some, (named before).once p origin there))
-point_may_be_fixed m before p (horizon k) some there = point_had m before p (horizon k) there
-point_may_be_fixed m before p (ending v i) some there = point_had m before p (ending v i) there
-
--- an entry of `fixed` that has its point
-pub record IsFixable (m : Mission) (before : List Extension) (t : Time) : Type 0 where
-  pub not_origin : 0 < t.point.0
-  pub point : HasPoint m (points_of before) t.point.0
-
-pub fixes_kept : (m : Mission) (before : List Extension) (from : ℕ) (fixed : List Time) → AllByRecursion (IsFixable m before) fixed → fix_breaks m (reached m before) from (map (written_fix m (points_of before)) fixed) ≡ []
-fixes_kept m before from [] h = refl
-fixes_kept m before from (t ∷ fixed) h =
-    let p = h.0.point in
-    let may : may_be_fixed m (reached m before) (written_at m (points_of before) t.point.0) ≡ true = ap (may_be_fixed m (reached m before)) (written_at_is m (points_of before) t.point.0 p) ∙ point_may_be_fixed m before t.point.0 p.point h.0.not_origin p.there in
-    rw may (fixes_kept m before (from + fix_size (written_fix m (points_of before) t)) fixed h.1)
-
 map_append : {A B : Type 0} (f : A → B) (xs ys : List A) → map f (xs ++ ys) ≡ map f xs ++ map f ys
 map_append f [] ys = refl
 map_append f (x ∷ xs) ys = ap (λ (zs : List _). f x ∷ zs) (map_append f xs ys)
@@ -216,43 +184,65 @@ map_twice : (m : Mission) (ts : List Kind) → map (λ (k : WrittenKind). k.sv) 
 map_twice m [] = refl
 map_twice m (t ∷ ts) = ap (λ (zs : List (List ℕ)). variable_name m t.sv.0 ∷ zs) (map_twice m ts)
 
-abbrev at_reached : ℕ → List (List ℕ) → Reached
-at_reached n names = record { extensions = n; tokens = names }
-
-same_reached : (a b : ℕ) (xs ys : List (List ℕ)) → a ≡ b → xs ≡ ys → at_reached a xs ≡ at_reached b ys
-same_reached a b xs ys e f = ap (λ (n : ℕ). at_reached n xs) e ∙ ap (at_reached b) f
-
-pub reached_next : (m : Mission) (before : List Extension) (e : Extension) → reached_with (reached m before) (written_body m before e) ≡ reached m (before ++ e ∷ [])
-reached_next m before e =
+-- the variables of the written plan's tokens are those of the plan's
+token_names_written : (m : Mission) (before es : List Extension) → token_names (written_extensions m before es) ≡ map (λ (k : Kind). variable_name m k.sv.0) (tokens_of es)
+token_names_written m before [] = refl
+token_names_written m before (e ∷ es) =
     let name = λ (k : Kind). variable_name m k.sv.0 in
-    let tokens : map name (tokens_of before) ++ map (λ (k : WrittenKind). k.sv) (map (written_kind m) e.tokens) ≡ map name (tokens_of (before ++ e ∷ [])) =
-    ap (λ (zs : List (List ℕ)). map name (tokens_of before) ++ zs) (map_twice m e.tokens) ∙ sym (map_append name (tokens_of before) e.tokens) ∙ ap (map name) (sym (tokens-push before e)) in
-    same_reached _ _ _ _ (sym (length-append before (e ∷ []))) tokens
+    let later = written_extensions m (before ++ e ∷ []) es in
+    ap (λ (names : List (List ℕ)). names ++ token_names later) (map_twice m e.tokens)
+    ∙ ap (λ (names : List (List ℕ)). map name e.tokens ++ names) (token_names_written m (before ++ e ∷ []) es)
+    ∙ sym (map_append name e.tokens (tokens_of es))
+
+length_written : (m : Mission) (before es : List Extension) → length (written_extensions m before es) ≡ length es
+length_written m before [] = refl
+length_written m before (e ∷ es) = ap (λ (n : ℕ). suc n) (length_written m (before ++ e ∷ []) es)
+
+-- the written plan has the plan's points
+pub point_had : (m : Mission) (before : List Extension) (p : ℕ) (point : Point) → slice_get (points_of before) p ≡ Some point → has_point_test m (written_plan m before) (written_point m point) ≡ true
+point_had m before p origin there = refl
+point_had m before p (horizon k) there =
+    let few : k ≤ length (written_plan m before) = omega (arith, horizon_few before p k there, length_written m [] before) in
+    let low : nat_le 1 k ≡ true = grind (arith, nat_tests, horizon_some before p k there) in
+    let high : nat_le k (length (written_plan m before)) ≡ true = grind (arith, nat_tests) in
+    rw (low, high) refl
+point_had m before p (ending v i) there =
+    let names = token_names (written_plan m before) in
+    let counted = subst (λ (ns : List (List ℕ)). length (timeline_of (tokens_of before) v) ≤ length (filter (bytes_eq (variable_name m v)) ns)) (sym (token_names_written m [] before)) (timeline_named m (tokens_of before) v) in
+    let few : i < length (filter (bytes_eq (variable_name m v)) names) = omega (arith, ending_few before p v i there, counted) in
+    let test : nat_lt i (length (filter (bytes_eq (variable_name m v)) names)) ≡ true = grind (arith, nat_tests) in
+    either_true (not (is_variable m (variable_name m v))) _ test
+
+-- the same by number
+pub number_had : (m : Mission) (es : List Extension) (p : ℕ) → HasPoint m (points_of es) p → has_point_test m (written_plan m es) (written_at m (points_of es) p) ≡ true
+number_had m es p h = ap (has_point_test m (written_plan m es)) (written_at_is m (points_of es) p h) ∙ point_had m es p h.point h.there
+
+point_may_be_fixed : (m : Mission) (before : List Extension) (p : ℕ) (point : Point) → 0 < p → slice_get (points_of before) p ≡ Some point → may_be_fixed m (written_plan m before) (written_point m point) ≡ true
+point_may_be_fixed m before p origin some there = absurd (omega (arith, some, (named before).once p origin there))
+point_may_be_fixed m before p (horizon k) some there = point_had m before p (horizon k) there
+point_may_be_fixed m before p (ending v i) some there = point_had m before p (ending v i) there
+
+-- all but the origin may be fixed
+pub number_may_be_fixed : (m : Mission) (before : List Extension) (p : ℕ) → 0 < p → HasPoint m (points_of before) p → may_be_fixed m (written_plan m before) (written_at m (points_of before) p) ≡ true
+number_may_be_fixed m before p some h = ap (may_be_fixed m (written_plan m before)) (written_at_is m (points_of before) p h) ∙ point_may_be_fixed m before p h.point some h.there
 
 -- an extension all of whose names are known
 pub record IsMeant (m : Mission) (before : List Extension) (e : Extension) : Type 0 where
-  pub fixed : AllByRecursion (IsFixable m before) e.fixed
+  pub fixed : AllByRecursion (λ (t : Time). HasPoint m (points_of before) t.point.0) e.fixed
   pub tokens : AllByRecursion (IsKindOf m.vars) e.tokens
   pub supports : AllByRecursion (IsWritableSupport m) e.supports
   pub goals : AllByRecursion (IsWritableToken m) e.goals
 
-pub extensions_kept : (m : Mission) (before es : List Extension) (from : ℕ) → EachAfter (IsMeant m) before es → extension_breaks m (reached m before) from (written_extensions m before es) ≡ []
-extensions_kept m before [] from h = refl
-extensions_kept m before (e ∷ es) from h =
-    let size = from + 2 + body_size (written_body m before e) in
-    rw (fixes_kept m before (from + 2 + 2) e.fixed h.0.fixed)
-    (ap (λ (r : Reached). extension_breaks m r size (written_extensions m (before ++ e ∷ []) es)) (reached_next m before e)
-    ∙ extensions_kept m (before ++ e ∷ []) es size h.1)
-
-body_means : (m : Mission) (before : List Extension) (e : Extension) → IsMission m → IsMeant m before e → BodyMeans m before (written_body m before e) e
-body_means m before e i h = record {
+pub extension_means : (m : Mission) (before : List Extension) (e : Extension) → IsMission m → IsMeant m before e → ExtensionMeans m before (written_extension m before e) e
+extension_means m before e i h = record {
+  base = refl;
   since = refl;
-  fixed = zipped (FixMeans m before) (written_fix m (points_of before)) (λ t k. fix_means m before t i k.point) e.fixed h.fixed;
-  tokens = zipped (NewTokenMeans m) (written_kind m) (λ k j. kind_means m k i j) e.tokens h.tokens;
+  fixed = zipped (TimeMeans m before) (written_time m (points_of before)) (λ t k. time_means m before t i k) e.fixed h.fixed;
+  tokens = zipped (KindMeans m) (written_kind m) (λ k j. kind_means m k i j) e.tokens h.tokens;
   supports = zipped (SupportMeans m) (written_support m) (λ s k. support_means m s i k) e.supports h.supports;
   goals = zipped (TokenMeans m) (written_token m) (λ t k. token_means m t i k) e.goals h.goals;
 }
 
 pub extensions_mean : (m : Mission) (before es : List Extension) → IsMission m → EachAfter (IsMeant m) before es → ExtensionsMean m before (written_extensions m before es) es
 extensions_mean m before [] i h = tt
-extensions_mean m before (e ∷ es) i h = (refl, body_means m before e i h.0, extensions_mean m (before ++ e ∷ []) es i h.1)
+extensions_mean m before (e ∷ es) i h = (extension_means m before e i h.0, extensions_mean m (before ++ e ∷ []) es i h.1)

@@ -15,13 +15,13 @@ use Rattle.hs_base.specs.Points.{count, points_of, tokens_of}
 use Rattle.hs_texts.specs.Written.{fix_line, token_line, support_line, goal_line, goal_lines, body_in}
 use Rattle.hs_texts.specs.PlanText.{extension_text, plan_text}
 use Rattle.hs_texts.specs.PlanSpelling.{PlanSpells}
-use Rattle.text_laws.specs.WritablePlans.{IsWritableFix, IsWritableExtension, IsWritablePlan, written_extensions}
+use Rattle.text_laws.specs.WritablePlans.{IsWritableFix, IsWritableExtension, IsWritablePlan, written_plan}
 use Rattle.base_laws.proofs.ListLemmas.{each_both}
 use Rattle.base_laws.proofs.PointLemmas.{count_is, count-push, tokens-push}
 use Rattle.std.proofs.lemmas.Option.{slice_get_within}
 use Rattle.text_laws.proofs.WritesLemmas.{text_written, each}
 use Rattle.text_laws.proofs.PlanPrintedLemmas.{HasPoint, IsWritableBody, AreWritable, plan_written}
-use Rattle.text_laws.proofs.PlanMeaningLemmas.{IsKnown, has_point, IsMeant, extensions_kept, extensions_mean}
+use Rattle.text_laws.proofs.PlanMeaningLemmas.{IsKnown, has_point, number_may_be_fixed, IsMeant, extensions_mean}
 
 -- A text has at least a byte for each line.
 
@@ -80,7 +80,7 @@ extension_fits m before e known few goals x =
     let base : e.base + 1 ≤ 1000000000 = omega (arith, ints, x.base) in
     let body : IsWritableBody m before e = record {
       since = x.since;
-      fixed = each (λ t k. record { point = point t k; at = k.at }) e.fixed x.fixed;
+      fixed = each (λ t k. let p = point t k in record { point = p; fixable = number_may_be_fixed m before t.point.0 k.not_origin p; at = k.at }) e.fixed x.fixed;
       tokens = x.tokens;
       supports = x.supports;
       goals = x.goals;
@@ -88,7 +88,7 @@ extension_fits m before e known few goals x =
     } in
     record {
       written = record { base = base; body = body };
-      meant = record { fixed = each (λ t k. record { not_origin = k.not_origin; point = point t k }) e.fixed x.fixed; tokens = x.tokens; supports = x.supports; goals = x.goals };
+      meant = record { fixed = each point e.fixed x.fixed; tokens = x.tokens; supports = x.supports; goals = x.goals };
     }
 
 record AreBoth (m : Mission) (before es : List Extension) : Type 0 where
@@ -113,7 +113,7 @@ plan_spelled m es h short =
     let both = extensions_both m [] es tt (omega (arith, short, size, inner)) h.each in
     let t = text_written (plan_written m es h.mission both.written) short in
     record {
-      written = written_extensions m [] es;
-      is_plan = record { pieces = t.0; is_text = t.1; sentence = t.2; kept = extensions_kept m [] es 3 both.meant };
+      written = written_plan m es;
+      is_plan = record { pieces = t.0; is_text = t.1; sentence = t.2 };
       means = extensions_mean m [] es h.mission both.meant;
     }

@@ -16,6 +16,7 @@ use Rattle.hs_base.specs.declared.limits.TheConstants.{LAST, TEXT_BYTES}
 use Rattle.hs_base.specs.Ranges.{whole, InRange}
 use Rattle.hs_texts.specs.Pieces.{Piece, word, number as digits, symbol, begins, is_letter, is_digit, is_symbol, is_space, is_word_byte, is_large, number_of, Placed, IsTextOf, pieces_of}
 use Rattle.hs_texts.specs.Languages.{Language, One, Yields, Then, ◌∣◌, Many, Several, Keyword, Sign, Number, Behind, Apart, word_says, symbol_says, number_says}
+use Rattle.hs_texts.specs.Kept.{Kept, kept, Series}
 use Rattle.hs_texts.specs.CanonicalText.{apart}
 use Rattle.text_laws.specs.Writes.{IsCutInto, MayFollow, Writes}
 use Rattle.text_laws.proofs.WrittenLemmas.{cut_nothing, cut_space, cut_piece, cut_is_text, space_ends, symbol_ends, ends_number}
@@ -142,6 +143,14 @@ yielded {A} {B} {R} {f} {k} {t} {x} {y} w e = record {
   cut = w.cut;
 }
 
+-- what was written is all, since no piece is left to say
+pub and_nothing : {A B : Type 0} {R : Language A} {S : A → Language B} {k : Bool} {t : List ℕ} {x : A} {y : B} → Writes R k t x → S x [] y → Writes (Then R S) k t y
+and_nothing {A} {B} {R} {S} {k} {t} {x} {y} w e = record {
+  pieces = w.pieces;
+  sentence = record { front = w.pieces; back = []; value = x; first = w.sentence; second = e; joined = sym (append-nil w.pieces) };
+  cut = w.cut;
+}
+
 -- Single pieces.
 
 says_word : (w : List ℕ) → word_says w (word w) ≡ Some tt
@@ -227,6 +236,23 @@ separated_begin g (y ∷ items) behind h a = rw (append_assoc (g y) (flat_map g 
 pub separated : {A : Type 0} {R : Language A} (g : List ℕ → List ℕ) (f : A → List ℕ) (xs : List A) → ((y more : List ℕ) → begins is_word_byte (g y ++ more) ≡ false) → AllByRecursion (λ x. Writes R false (g (f x)) x) xs → Writes (Many R) false (flat_map g (map f xs)) xs
 separated {A} {R} g f [] b h = loosened (no_more R)
 separated g f (x ∷ xs) b h = in_front h.0 (λ behind a. separated_begin g (map f xs) behind b a) (separated g f xs b h.1)
+
+-- Items, each in the language that what was reached asks for.
+
+pub no_item : {A S : Type 0} (R : S → Language (Kept A)) (step : S → A → S) (s : S) → Writes (Series R step s) true [] (kept [])
+no_item R step s = record { pieces = []; sentence = refl; cut = λ end behind qs a le k. k }
+
+-- one more in front
+pub item_first : {A S : Type 0} (R : S → Language (Kept A)) (step : S → A → S) (s : S) {t u : List ℕ} {x : A} {xs : List A} → Writes (R s) true t (kept x) → Writes (Series R step (step s x)) true u (kept xs) → Writes (Series R step s) true (t ++ u) (kept (x ∷ xs))
+unfolding followed
+item_first {A} {S} R step s {t} {u} {x} {xs} v w =
+    let both : Writes (Then (R s) (λ item. Series R step (step s x))) true (t ++ u) (kept xs) = followed v (λ behind a. tt) w in
+    record { pieces = both.pieces; sentence = (v.pieces, w.pieces, v.sentence, w.sentence, refl); cut = both.cut }
+
+-- lines of items that are written under other names, and leave what was reached
+pub item_lines : {A B S : Type 0} (R : S → Language (Kept B)) (s : S) (f : A → List ℕ) (g : A → B) (xs : List A) → AllByRecursion (λ x. Writes (R s) true (f x) (kept (g x))) xs → Writes (Series R (λ before item. before) s) true (flat_map f xs) (kept (map g xs))
+item_lines R s f g [] h = no_item R (λ before item. before) s
+item_lines R s f g (x ∷ xs) h = item_first R (λ before item. before) s h.0 (item_lines R s f g xs h.1)
 
 -- what holds of each
 pub each : {A : Type 0} {P Q : A → Type 0} → ((x : A) → P x → Q x) → (xs : List A) → AllByRecursion P xs → AllByRecursion Q xs

@@ -13,7 +13,14 @@ use Rattle.hs_base.specs.Ranges.{whole, InRange}
 use Rattle.hs_base.specs.Walks.{EachAfter}
 use Rattle.hs_base.specs.Points.{Point, origin, horizon, ending, count, points_of}
 use Rattle.hs_texts.specs.Written.{variable_name, value_name}
-use Rattle.hs_texts.specs.WrittenPlan.{WrittenPoint, at_origin, at_horizon, at_end, WrittenToken, WrittenFix, WrittenKind, WrittenSupport, WrittenBody, WrittenExtension}
+use Rattle.hs_texts.specs.declared.written.WrittenPoint.{WrittenPoint}
+use Rattle.hs_texts.specs.declared.written.WrittenPoint.TheVariants.{Origin, Horizon, End}
+use Rattle.hs_texts.specs.declared.written.WrittenToken.{WrittenToken}
+use Rattle.hs_texts.specs.declared.written.WrittenTime.{WrittenTime}
+use Rattle.hs_texts.specs.declared.written.WrittenKind.{WrittenKind}
+use Rattle.hs_texts.specs.declared.written.WrittenSupport.{WrittenSupport}
+use Rattle.hs_texts.specs.declared.written.WrittenBody.{WrittenBody}
+use Rattle.hs_texts.specs.declared.written.WrittenExtension.{WrittenExtension}
 
 -- a token of a variable of the mission
 pub record IsWritableToken (m : Mission) (t : TokenRef) : Type 0 where
@@ -50,16 +57,16 @@ abbrev pub written_token : Mission → TokenRef → WrittenToken
 written_token m t = record { sv = variable_name m t.sv.0; place = t.place }
 
 abbrev pub written_point : Mission → Point → WrittenPoint
-written_point m origin = at_origin
-written_point m (horizon k) = at_horizon k
-written_point m (ending v i) = at_end (variable_name m v) i
+written_point m origin = Origin
+written_point m (horizon k) = Horizon k
+written_point m (ending v i) = End (record { sv = variable_name m v; place = i })
 
 -- a point by its number
 abbrev pub written_at : Mission → List Point → ℕ → WrittenPoint
-written_at m ps p = elim (slice_get ps p) [ Some name ↦ written_point m name | None ↦ at_origin ]
+written_at m ps p = elim (slice_get ps p) [ Some name ↦ written_point m name | None ↦ Origin ]
 
-abbrev pub written_fix : Mission → List Point → Time → WrittenFix
-written_fix m ps t = record { point = written_at m ps t.point.0; at = t.at }
+abbrev pub written_time : Mission → List Point → Time → WrittenTime
+written_time m ps t = record { point = written_at m ps t.point.0; at = t.at }
 
 abbrev pub written_kind : Mission → Kind → WrittenKind
 written_kind m k = record { sv = variable_name m k.sv.0; value = value_name m k }
@@ -70,7 +77,7 @@ written_support m s = record { token = written_token m s.token; need = s.need; b
 abbrev pub written_body : Mission → List Extension → Extension → WrittenBody
 written_body m before e = record {
   since = e.since;
-  fixed = map (written_fix m (points_of before)) e.fixed;
+  fixed = map (written_time m (points_of before)) e.fixed;
   tokens = map (written_kind m) e.tokens;
   supports = map (written_support m) e.supports;
   goals = map (written_token m) e.goals;
@@ -83,3 +90,7 @@ written_extension m before e = record { base = e.base; body = written_body m bef
 abbrev pub written_extensions : Mission → List Extension → List Extension → List WrittenExtension
 written_extensions m before [] = []
 written_extensions m before (e ∷ es) = written_extension m before e ∷ written_extensions m (before ++ e ∷ []) es
+
+-- the plan
+abbrev pub written_plan : Mission → List Extension → List WrittenExtension
+written_plan m es = written_extensions m [] es

@@ -3,7 +3,7 @@ use Rattle.std.proofs.lemmas.Result.{err_from_is_err_and}
 use Rattle.hs_texts.specs.Pieces.{IsCutRefusal}
 use Rattle.text_laws.specs.Refused.{OrMemory}
 use Rattle.text_laws.proofs.RefusalLemmas.{text_or_refused}
-use Rattle.plan_text.specs.PlanSpelling.{IsPlanRefusal}
+use Rattle.hs_texts.specs.PlanSpelling.{IsPlanRefusal}
 use Rattle.commands.specs.Inputs.{IsFrontRefusalOf, IsGivenRefusal}
 use Rattle.commands.proofs.InputLemmas.{wider}
 use Rattle.commands.proofs.input.given.Goals as goal

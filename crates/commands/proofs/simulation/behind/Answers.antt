@@ -1,6 +1,6 @@
 use Rattle.std.proofs.Common.{inl, inr, sym, ◌∙◌}
 use Rattle.std.proofs.lemmas.Result.{IfOk-weaker}
-use Rattle.plan_text.specs.PlanSpelling.{IsPlanRefusal}
+use Rattle.hs_texts.specs.PlanSpelling.{IsPlanRefusal}
 use Rattle.commands.specs.declared.outcome.Outcome.{Outcome}
 use Rattle.commands.specs.Inputs.{IsTold}
 use Rattle.commands.specs.Sims.{Runs, Flies, Sims, IsRunRefusal}

@@ -1,4 +1,4 @@
-use Rattle.plan_text.specs.PlanSpelling.{KindMeans, unknown_in_kind}
+use Rattle.hs_texts.specs.PlanSpelling.{KindMeans, unknown_in_kind}
 use Rattle.plan_text.proofs.NamingLemmas.{LookedUp}
 use Rattle.plan_text.proofs.naming.kinds_of.Given as goal
 

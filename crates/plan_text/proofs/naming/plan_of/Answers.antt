@@ -1,8 +1,8 @@
 use Rattle.std.proofs.Common.{length}
 use Rattle.std.proofs.lemmas.Result.{err_from_is_err_and}
 use Rattle.hs_base.specs.Points.{points_of}
-use Rattle.plan_text.specs.declared.written.WrittenExtension.{WrittenExtension}
-use Rattle.plan_text.specs.PlanSpelling.{unknown_in_body}
+use Rattle.hs_texts.specs.declared.written.WrittenExtension.{WrittenExtension}
+use Rattle.hs_texts.specs.PlanSpelling.{unknown_in_body}
 use Rattle.plan_text.proofs.NamingLemmas.{unknown_item}
 use Rattle.plan_text.proofs.PlanLemmas.{plan_step}
 use Rattle.plan_text.proofs.naming.plan_of.Goals as goal

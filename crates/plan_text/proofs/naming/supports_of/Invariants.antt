@@ -1,4 +1,4 @@
-use Rattle.plan_text.specs.PlanSpelling.{SupportMeans, unknown_in_support}
+use Rattle.hs_texts.specs.PlanSpelling.{SupportMeans, unknown_in_support}
 use Rattle.plan_text.proofs.NamingLemmas.{LookedUp}
 use Rattle.plan_text.proofs.naming.supports_of.Given as goal
 

@@ -2,7 +2,7 @@ use Rattle.std.proofs.Common.{List, length}
 use Rattle.hs_base.specs.declared.plan.Extension.{Extension}
 use Rattle.hs_base.specs.Points.{points_of}
 use Rattle.plan_text.specs.Numbers.{AreNumbers}
-use Rattle.plan_text.specs.PlanSpelling.{TimeMeans, unknown_in_time}
+use Rattle.hs_texts.specs.PlanSpelling.{TimeMeans, unknown_in_time}
 use Rattle.plan_text.proofs.NamingLemmas.{LookedUp}
 use Rattle.plan_text.proofs.naming.times_of.Given as goal
 

@@ -1,4 +1,4 @@
-use Rattle.plan_text.specs.PlanSpelling.{TokenMeans, unknown_in_token}
+use Rattle.hs_texts.specs.PlanSpelling.{TokenMeans, unknown_in_token}
 use Rattle.plan_text.proofs.NamingLemmas.{LookedUp}
 use Rattle.plan_text.proofs.naming.tokens_of.Given as goal
 

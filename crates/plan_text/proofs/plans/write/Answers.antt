@@ -4,9 +4,9 @@ use Rattle.hs_base.specs.declared.limits.TheConstants.{TEXT_BYTES}
 use Rattle.hs_base.specs.Points.{points_of}
 use Rattle.hs_texts.specs.PlanText.{extension_in, extension_text, plan_text}
 use Rattle.plan_text.proofs.WalkLemmas.{join_after-next, take-next}
-use Rattle.plan_text.specs.PlanSpelling.{PlanSpells}
+use Rattle.hs_texts.specs.PlanSpelling.{PlanSpells}
 use Rattle.plan_text.proofs.NamedLemmas.{fewer-next}
-use Rattle.plan_text.proofs.SpellingLemmas.{written_back}
+use Rattle.text_laws.proofs.PlanSpellingLemmas.{plan_spelled}
 use Rattle.plan_text.proofs.plans.write.Goals as goal
 
 pub extend-requires : goal.extend-requires
@@ -31,4 +31,4 @@ returns-clause-spelled c = λ writable short.
     let m = c.args.mission.now in
     let es = c.args.plan.now.extensions in
     let same : c.push_bytes-2.new.self ≡ plan_text m es = grind (arith, common_steps) in
-    subst (λ (t : List ℕ). length t ≤ TEXT_BYTES → PlanSpells m t 0 es) (sym same) (written_back m es writable) short
+    subst (λ (t : List ℕ). length t ≤ TEXT_BYTES → PlanSpells m t 0 es) (sym same) (plan_spelled m es writable) short

@@ -3,7 +3,10 @@ use Rattle.hs_texts.specs.Pieces.{place_in}
 use Rattle.ddl_read.specs.Spelled.{placed}
 use Rattle.ddl_read.proofs.CutLemmas.{few_pieces}
 use Rattle.plan_text.specs.PlanReading.{plan_at}
-use Rattle.plan_text.proofs.ReadingLemmas.{left_of_read, left_of_stuck, left_of_broken, is_plan_text, is_trailing, is_expected, is_broken}
+use Rattle.hs_texts.specs.PlanGrammar.{PlanGrammar}
+use Rattle.plan_text.proofs.PlanReadLemmas.{plan_reads}
+use Rattle.plan_text.proofs.SizeLemmas.{sized_plan}
+use Rattle.plan_text.proofs.ReadingLemmas.{left_of_read, left_of_stuck, left_of_broken, is_kept_text, is_trailing, is_expected, is_broken}
 use Rattle.plan_text.proofs.reading.read_written.Goals as goal
 
 pub place_before-requires : goal.place_before-requires
@@ -13,7 +16,7 @@ place_before-requires c =
     let cut = c.as_slice-count.ensures.cut in
     let same = ap length c.as_slice-count.ensures.pieces in
     let few = few_pieces p.bytes p.pieces cut in
-    let there = left_of_read c.args.mission.now p.bytes c.args.from p.pieces _ _ (ap (plan_at c.args.mission.now) (sym begun) ∙ c.in-Ok.ensures) in
+    let there = left_of_read (PlanGrammar c.args.mission.now) (plan_at c.args.mission.now) (plan_reads c.args.mission.now) p.bytes c.args.from p.pieces _ _ (ap (plan_at c.args.mission.now) (sym begun) ∙ c.in-Ok.ensures) in
     (omega (arith, same, there, c.left-then-left-gt0.ensures), omega (arith, same, few))
 
 pub returns-then-left-gt0 : goal.returns-then-left-gt0
@@ -21,7 +24,7 @@ returns-then-left-gt0 c =
     let p = c.args.pieces.now in
     let begun = c.new-reader.ensures ∙ c.reader.ensures in
     let k : length c.as_slice-count.result.now - c.left-then-left-gt0.result ≡ length p.pieces - length c.plan.new.self = omega (arith, ap length c.as_slice-count.ensures.pieces, c.left-then-left-gt0.ensures) in
-    is_trailing c.args.mission.now p.bytes c.args.from c.place_before.result p.pieces _ _ c.as_slice-count.ensures.cut (ap (plan_at c.args.mission.now) (sym begun) ∙ c.in-Ok.ensures) (omega (arith, c.if-left-gt0.true, c.left.ensures)) (c.place_before.ensures ∙ ap (place_in (length p.bytes) (map (placed p.bytes) p.pieces)) k)
+    is_trailing (PlanGrammar c.args.mission.now) (plan_at c.args.mission.now) (plan_reads c.args.mission.now) p.bytes c.args.from c.place_before.result p.pieces _ _ c.as_slice-count.ensures.cut (ap (plan_at c.args.mission.now) (sym begun) ∙ c.in-Ok.ensures) (omega (arith, c.if-left-gt0.true, c.left.ensures)) (c.place_before.ensures ∙ ap (place_in (length p.bytes) (map (placed p.bytes) p.pieces)) k)
 
 pub place_before-requires-in-Err-Text : goal.place_before-requires-in-Err-Text
 place_before-requires-in-Err-Text c =
@@ -30,7 +33,7 @@ place_before-requires-in-Err-Text c =
     let cut = c.as_slice-count.ensures.cut in
     let same = ap length c.as_slice-count.ensures.pieces in
     let few = few_pieces p.bytes p.pieces cut in
-    let there = left_of_stuck c.args.mission.now p.bytes c.args.from p.pieces _ (ap (plan_at c.args.mission.now) (sym begun) ∙ (rw c.in-Err-Text.field-0-is at c.in-Err-Text.ensures)) in
+    let there = left_of_stuck (PlanGrammar c.args.mission.now) (plan_at c.args.mission.now) (plan_reads c.args.mission.now) p.bytes c.args.from p.pieces _ (ap (plan_at c.args.mission.now) (sym begun) ∙ (rw c.in-Err-Text.field-0-is at c.in-Err-Text.ensures)) in
     (omega (arith, same, there, c.left-in-Err-Text.ensures), omega (arith, same, few))
 
 pub overflow_add-left : goal.overflow_add-left
@@ -38,7 +41,7 @@ overflow_add-left c =
     let p = c.args.pieces.now in
     let begun = c.new-reader.ensures ∙ c.reader.ensures in
     let few = few_pieces p.bytes p.pieces c.as_slice-count.ensures.cut in
-    let there = left_of_broken c.args.mission.now p.bytes c.args.from p.pieces _ c.in-Err-Pieces.size (ap (plan_at c.args.mission.now) (sym begun) ∙ (rw c.in-Err-Pieces.field-0-is at c.in-Err-Pieces.ensures)) in
+    let there = left_of_broken (PlanGrammar c.args.mission.now) (plan_at c.args.mission.now) (plan_reads c.args.mission.now) (sized_plan c.args.mission.now) p.bytes c.args.from p.pieces _ c.in-Err-Pieces.size (ap (plan_at c.args.mission.now) (sym begun) ∙ (rw c.in-Err-Pieces.field-0-is at c.in-Err-Pieces.ensures)) in
     record { fits = omega (arith, few, there, c.left-in-Err-Pieces.ensures) }
 
 pub place_before-requires-in-Err-Pieces : goal.place_before-requires-in-Err-Pieces
@@ -48,25 +51,25 @@ place_before-requires-in-Err-Pieces c =
     let cut = c.as_slice-count.ensures.cut in
     let same = ap length c.as_slice-count.ensures.pieces in
     let few = few_pieces p.bytes p.pieces cut in
-    let there = left_of_broken c.args.mission.now p.bytes c.args.from p.pieces _ c.in-Err-Pieces.size (ap (plan_at c.args.mission.now) (sym begun) ∙ (rw c.in-Err-Pieces.field-0-is at c.in-Err-Pieces.ensures)) in
+    let there = left_of_broken (PlanGrammar c.args.mission.now) (plan_at c.args.mission.now) (plan_reads c.args.mission.now) (sized_plan c.args.mission.now) p.bytes c.args.from p.pieces _ c.in-Err-Pieces.size (ap (plan_at c.args.mission.now) (sym begun) ∙ (rw c.in-Err-Pieces.field-0-is at c.in-Err-Pieces.ensures)) in
     (omega (arith, same, there, c.left-in-Err-Pieces.ensures), omega (arith, same, few))
 
 pub returns-else-left-gt0 : goal.returns-else-left-gt0
 returns-else-left-gt0 c =
     let p = c.args.pieces.now in
     let begun = c.new-reader.ensures ∙ c.reader.ensures in
-    is_plan_text c.args.mission.now p.bytes c.args.from p.pieces _ c.in-Ok.extensions c.as_slice-count.ensures.cut (ap (plan_at c.args.mission.now) (sym begun) ∙ c.in-Ok.ensures) (omega (arith, c.if-left-gt0.false, c.left.ensures))
+    is_kept_text (PlanGrammar c.args.mission.now) (plan_at c.args.mission.now) (plan_reads c.args.mission.now) p.bytes c.args.from p.pieces _ c.in-Ok.extensions c.as_slice-count.ensures.cut (ap (plan_at c.args.mission.now) (sym begun) ∙ c.in-Ok.ensures) (omega (arith, c.if-left-gt0.false, c.left.ensures))
 
 pub returns-in-Err-Text : goal.returns-in-Err-Text
 returns-in-Err-Text c =
     let p = c.args.pieces.now in
     let begun = c.new-reader.ensures ∙ c.reader.ensures in
     let k : length c.as_slice-count.result.now - c.left-in-Err-Text.result ≡ length p.pieces - length c.plan.new.self = omega (arith, ap length c.as_slice-count.ensures.pieces, c.left-in-Err-Text.ensures) in
-    is_expected c.args.mission.now p.bytes c.args.from c.place_before-in-Err-Text.result p.pieces _ c.as_slice-count.ensures.cut (ap (plan_at c.args.mission.now) (sym begun) ∙ (rw c.in-Err-Text.field-0-is at c.in-Err-Text.ensures)) (c.place_before-in-Err-Text.ensures ∙ ap (place_in (length p.bytes) (map (placed p.bytes) p.pieces)) k)
+    is_expected (PlanGrammar c.args.mission.now) (plan_at c.args.mission.now) (plan_reads c.args.mission.now) p.bytes c.args.from c.place_before-in-Err-Text.result p.pieces _ c.as_slice-count.ensures.cut (ap (plan_at c.args.mission.now) (sym begun) ∙ (rw c.in-Err-Text.field-0-is at c.in-Err-Text.ensures)) (c.place_before-in-Err-Text.ensures ∙ ap (place_in (length p.bytes) (map (placed p.bytes) p.pieces)) k)
 
 pub returns-in-Err-Pieces : goal.returns-in-Err-Pieces
 returns-in-Err-Pieces c =
     let p = c.args.pieces.now in
     let begun = c.new-reader.ensures ∙ c.reader.ensures in
     let k : length c.as_slice-count.result.now - (c.left-in-Err-Pieces.result + c.in-Err-Pieces.size) ≡ length p.pieces - (length c.plan.new.self + c.in-Err-Pieces.size) = omega (arith, ap length c.as_slice-count.ensures.pieces, c.left-in-Err-Pieces.ensures) in
-    is_broken c.args.mission.now p.bytes c.args.from c.place_before-in-Err-Pieces.result c.in-Err-Pieces.size p.pieces _ c.as_slice-count.ensures.cut (ap (plan_at c.args.mission.now) (sym begun) ∙ (rw c.in-Err-Pieces.field-0-is at c.in-Err-Pieces.ensures)) (c.place_before-in-Err-Pieces.ensures ∙ ap (place_in (length p.bytes) (map (placed p.bytes) p.pieces)) k)
+    is_broken (PlanGrammar c.args.mission.now) (plan_at c.args.mission.now) (plan_reads c.args.mission.now) (sized_plan c.args.mission.now) p.bytes c.args.from c.place_before-in-Err-Pieces.result c.in-Err-Pieces.size p.pieces _ c.as_slice-count.ensures.cut (ap (plan_at c.args.mission.now) (sym begun) ∙ (rw c.in-Err-Pieces.field-0-is at c.in-Err-Pieces.ensures)) (c.place_before-in-Err-Pieces.ensures ∙ ap (place_in (length p.bytes) (map (placed p.bytes) p.pieces)) k)

@@ -1,7 +1,7 @@
 use Rattle.std.proofs.Common.{ap, sym, ◌∙◌}
 use Rattle.std.specs.Prelude.{slice_get}
-use Rattle.plan_text.specs.declared.written.WrittenPoint.TheVariants.{End}
-use Rattle.plan_text.specs.WrittenPlan.{has_point}
+use Rattle.hs_texts.specs.declared.written.WrittenPoint.TheVariants.{End}
+use Rattle.hs_texts.specs.PlanGrammar.{has_point}
 use Rattle.plan_text.specs.SoFar.{SoFar, variable_at}
 use Rattle.plan_text.proofs.CountLemmas.{unknown_passes, counted_point, counted_there}
 use Rattle.plan_text.proofs.written_plan.WrittenPlan.has_token.Goals as goal

@@ -1,6 +1,6 @@
 use Rattle.std.proofs.Common.{◌≡◌, ◌++◌, ap, sym, ◌∙◌}
 use Rattle.std.specs.Prelude.{Some}
-use Rattle.plan_text.specs.WrittenPlan.{token_names}
+use Rattle.hs_texts.specs.PlanGrammar.{token_names}
 use Rattle.plan_text.specs.SoFar.{variable_at, times_named, names_of_kinds}
 use Rattle.plan_text.proofs.CountLemmas.{token_names-push}
 use Rattle.plan_text.proofs.written_plan.WrittenPlan.with.Goals as goal

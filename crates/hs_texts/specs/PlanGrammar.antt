@@ -1,20 +1,14 @@
--- The grammar of plans' texts, with the rule on the points that they fix.
-use Rattle.std.specs.Prelude.{ℕ, ◌+◌, ℤ, Bool, true, false, cond, not, ◌&&◌, ◌||◌, ◌-◌, nat_eq, nat_le, nat_lt, List, [], ◌∷◌, ◌++◌, length, map, filter, flat_map}
+-- The grammar of plans' texts, with the rules on points and numbers in it.
+use Rattle.std.specs.Prelude.{ℕ, ◌+◌, ℤ, Bool, true, false, cond, not, ◌&&◌, ◌||◌, ◌-◌, nat_eq, nat_le, nat_lt, List, [], ◌∷◌, ◌++◌, length, map, filter, flat_map, Option, Some, None}
 use Rattle.std.specs.List.{list_any}
 use Rattle.std.specs.Str.{bytes_eq}
 use Rattle.hs_base.specs.declared.mission.Mission.{Mission}
 use Rattle.hs_base.specs.declared.mission.Var.{Var}
-use Rattle.hs_texts.specs.Languages.{Language, Yields, ◌>>=◌, ◌∣◌, Many, Keyword, Number, After}
-use Rattle.hs_texts.specs.WrittenPlan.{Name, Count}
-use Rattle.plan_text.specs.declared.written.WrittenPoint.{WrittenPoint}
-use Rattle.plan_text.specs.declared.written.WrittenPoint.TheVariants.{Origin, Horizon, End}
-use Rattle.plan_text.specs.declared.written.WrittenToken.{WrittenToken}
-use Rattle.plan_text.specs.declared.written.WrittenTime.{WrittenTime}
-use Rattle.plan_text.specs.declared.written.WrittenKind.{WrittenKind}
-use Rattle.plan_text.specs.declared.written.WrittenSupport.{WrittenSupport}
-use Rattle.plan_text.specs.declared.written.WrittenBody.{WrittenBody}
-use Rattle.plan_text.specs.declared.written.WrittenExtension.{WrittenExtension}
-use Rattle.plan_text.specs.Kept.{Kept, kept, broken, onward, Series}
+use Rattle.hs_texts.specs.Types.{WrittenPoint, Origin, Horizon, End, WrittenToken, WrittenTime, WrittenKind, WrittenSupport, WrittenBody, WrittenExtension}
+use Rattle.hs_texts.specs.Pieces.{Piece, number, number_of}
+use Rattle.hs_texts.specs.Languages.{Language, One, Yields, ◌>>=◌, ◌∣◌, Many, Keyword, Number, After}
+use Rattle.hs_texts.specs.MissionText.{NameText}
+use Rattle.hs_texts.specs.Kept.{Kept, kept, broken, onward, Series}
 
 -- The points of a written plan.
 
@@ -44,6 +38,18 @@ point_size (Horizon k) = 2
 point_size (End t) = 2
 
 -- The grammar.
+
+-- names of texts without a version
+abbrev pub Name : Language (List ℕ)
+Name = NameText 1
+
+-- a number that counts
+abbrev pub count_says : Piece → Option ℕ
+count_says (number ds) = Some (number_of ds)
+count_says _ = None
+
+abbrev pub Count : Language ℕ
+Count = One count_says
 
 -- the number n
 abbrev pub Exactly : ℕ → Language (Kept (Unit {0}))
@@ -116,8 +122,8 @@ GoalToken _ = do
 abbrev pub GoalText : ℕ → Language (Kept WrittenToken)
 GoalText n = do
   _ ← Keyword "goal"
-  number ← Exactly n
-  onward GoalToken number
+  counted ← Exactly n
+  onward GoalToken counted
 
 -- the goals, numbered in turn, and "close"
 abbrev pub BodyEnd : ℤ → List WrittenTime → List WrittenKind → List WrittenSupport → List WrittenToken → Language (Kept WrittenBody)
@@ -166,8 +172,8 @@ PlanBack m _ = do
   extensions ← Series (ExtensionText m) (λ before e. before ++ e ∷ []) []
   onward PlanEnd extensions
 
-abbrev pub PlanText : Mission → Language (Kept (List WrittenExtension))
-PlanText m = do
+abbrev pub PlanGrammar : Mission → Language (Kept (List WrittenExtension))
+PlanGrammar m = do
   _ ← Keyword "hsts"
   _ ← Keyword "plan"
   version ← Exactly 1

@@ -1,4 +1,6 @@
 //! Plans as their texts spell them, with names in place of numbers.
+ghost use Rattle.std.specs.Prelude.{◌≡◌};
+ghost use Rattle.hs_texts.specs.PlanGrammar.{point_size};
 
 use hs_base::{List, Name};
 
@@ -10,6 +12,19 @@ pub enum WrittenPoint {
     Horizon(u32),
     /// The end of a token.
     End(WrittenToken),
+}
+
+impl WrittenPoint {
+    /// The number of pieces of its text.
+    pub fn size(&self) -> u32
+        ensures { result ≡ point_size self.now }
+    {
+        match self {
+            WrittenPoint::Origin => 1,
+            WrittenPoint::Horizon(_) => 2,
+            WrittenPoint::End(_) => 2,
+        }
+    }
 }
 
 /// A token by its variable and its place.
