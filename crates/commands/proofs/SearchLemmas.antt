@@ -6,8 +6,8 @@ use Rattle.hs_base.specs.Checked.{Checked}
 use Rattle.log_laws.specs.LogText.{log_text}
 use Rattle.search_tree.specs.Tree.{Found, plan, no_plan, budget}
 use Rattle.search_laws.proofs.OneLemmas.{one_plan}
-use Rattle.plan_search.specs.declared.first.Unplanned.{Unplanned}
-use Rattle.plan_search.specs.declared.first.Unplanned.TheVariants.{NoPlan as NoneAtAll, Budget as NodesEnded, Memory as NoMemoryLeft}
+use Rattle.plan_search.specs.declared.unplanned.Unplanned.{Unplanned}
+use Rattle.plan_search.specs.declared.unplanned.Unplanned.TheVariants.{NoPlan as NoneAtAll, Budget as NodesEnded, Memory as NoMemoryLeft}
 use Rattle.plan_search.specs.First.{FindsFirst, IsPlanned, IsUnplanned, outset}
 use Rattle.commands.specs.Inputs.{IsWhole}
 use Rattle.commands.specs.Plans.{Tells}

@@ -1,8 +1,8 @@
 -- How it is told that no plan was found.
 use Rattle.std.specs.Prelude.{◌≡◌, ◌≢◌, ℕ, List, [], ◌++◌}
 use Rattle.hs_texts.specs.ClosingText.{no_plan_line, budget_line}
-use Rattle.plan_search.specs.declared.first.Unplanned.{Unplanned}
-use Rattle.plan_search.specs.declared.first.Unplanned.TheVariants.{NoPlan as NoneAtAll, Budget as NodesEnded, Memory as NoMemoryLeft}
+use Rattle.plan_search.specs.declared.unplanned.Unplanned.{Unplanned}
+use Rattle.plan_search.specs.declared.unplanned.Unplanned.TheVariants.{NoPlan as NoneAtAll, Budget as NodesEnded, Memory as NoMemoryLeft}
 use Rattle.commands.specs.declared.status.Status.{Status}
 use Rattle.commands.specs.declared.status.Status.TheVariants.{NoMemory, NoPlan, Budget}
 

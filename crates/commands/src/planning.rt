@@ -1,6 +1,6 @@
 ghost use Rattle.std.specs.Prelude.{◌≡◌, ◌≢◌, ◌++◌, [], IfOk, OnOk};
 ghost use Rattle.hs_base.specs.Missions.{IsMission};
-ghost use Rattle.plan_search.specs.declared.first.Unplanned.TheVariants.{Memory as NoMemoryLeft};
+ghost use Rattle.plan_search.specs.declared.unplanned.Unplanned.TheVariants.{Memory as NoMemoryLeft};
 ghost use Rattle.commands.specs.Plans.{IsNetText, IsPlanText, Nets, Plans};
 ghost use Rattle.commands.specs.Searches.{Searches};
 ghost use Rattle.commands.specs.Untold.{IsToldWhy, line_of, status_of};

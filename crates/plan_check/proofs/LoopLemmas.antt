@@ -1,8 +1,7 @@
 -- Loops over a list whose elements keep a rule with those before them.
-use Rattle.std.proofs.Common.{ℕ, suc, ◌+◌, ◌<◌, ◌≤◌, List, [], ◌∷◌, ◌++◌, length, take, drop, get_or, sym, subst, arith}
+use Rattle.std.proofs.Common.{ℕ, suc, ◌+◌, ◌<◌, ◌≤◌, List, [], length, take, drop, get_or, sym, subst, arith}
 use Rattle.std.proofs.lemmas.List.{take_more, take_all, length-take-le}
 use Rattle.std.proofs.lemmas.Option.{slice_get-get_or}
-use Rattle.std.specs.List.{AllByRecursion}
 use Rattle.hs_base.specs.Walks.{EachAfter}
 use Rattle.hs_base.specs.Faults.{IsFirstBreak, IsFirstBreakAt}
 use Rattle.base_laws.proofs.ListLemmas.{EachAfter-more, slice_get-split}
@@ -21,8 +20,3 @@ first_break P xs i d below h broken = record { after = drop (suc i) xs; split = 
 
 pub first_break_at : {X : Type 0} (P : List X → X → Type 0) (xs : List X) (i : ℕ) (d : X) → i < length xs → EachAfter P [] (take i xs) → (P (take i xs) (get_or xs i d) → ⊥) → IsFirstBreakAt P xs i
 first_break_at P xs i d below h broken = (take i xs, get_or xs i d, first_break P xs i d below h broken, sym (length-take-le i xs (omega arith)))
-
--- what follows from the rule holds of each element
-pub each_from : {X : Type 0} (P : List X → X → Type 0) (Q : X → Type 0) → ((before : List X) (x : X) → P before x → Q x) → (before xs : List X) → EachAfter P before xs → AllByRecursion Q xs
-each_from P Q f before [] h = tt
-each_from P Q f before (x ∷ xs) h = (f before x h.0, each_from P Q f (before ++ x ∷ []) xs h.1)

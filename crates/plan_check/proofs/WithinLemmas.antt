@@ -2,7 +2,6 @@
 use Rattle.std.proofs.Common.{◌≡◌, ◌*◌, ◌<◌, ◌≤◌, pos, List, [], ◌∷◌, ◌++◌, length, refl, sym, ap, ◌∙◌, subst, arith, append-nil, length-append}
 use Rattle.std.proofs.lemmas.Int.{ints}
 use Rattle.std.proofs.lemmas.Grind.{flat_map-append}
-use Rattle.std.proofs.lemmas.Option.{slice_get_within}
 use Rattle.std.specs.List.{AllByRecursion}
 use Rattle.hs_base.specs.declared.mission.Kind.{Kind}
 use Rattle.hs_base.specs.declared.plan.Time.{Time}
@@ -17,8 +16,8 @@ use Rattle.hs_base.proofs.RuleLemmas.{base_kept, limits_kept, order_kept, fixed_
 use Rattle.base_laws.proofs.ListLemmas.{snoc_induction, each_at, each_both, each_weaker}
 use Rattle.base_laws.proofs.PointLemmas.{tokens-push, count-push, count_is}
 use Rattle.plan_laws.proofs.ChainLemmas.{value_there}
+use Rattle.plan_laws.proofs.InsideLemmas.{each_from}
 use Rattle.token_net.specs.Conditions.{IsWithin}
-use Rattle.plan_check.proofs.LoopLemmas.{each_from}
 
 pub fixed-push : (before : List Extension) (e : Extension) → fixed_of (before ++ e ∷ []) ≡ fixed_of before ++ e.fixed
 fixed-push before e = flat_map-append (λ (x : Extension). x.fixed) before (e ∷ []) ∙ ap (λ l. fixed_of before ++ l) (append-nil e.fixed)
@@ -41,10 +40,6 @@ module _ (m : Mission) (h : IsMission m) where
 
   pub all_kinds : (es : List Extension) → EachAfter (KeepsRules m) [] es → AllKinds es
   all_kinds es r = snoc_induction AllKinds (KeepsRules m) more_kinds [] es tt r
-
-  -- and so of one of its variables
-  pub all_below : (es : List Extension) → EachAfter (KeepsRules m) [] es → AllByRecursion (λ (k : Kind). k.sv.0 < length m.vars) (tokens_of es)
-  all_below es r = each_weaker (IsKindOf m.vars) (λ (k : Kind). k.sv.0 < length m.vars) (λ k is. slice_get_within m.vars k.sv.0 is.0 is.1) (tokens_of es) (all_kinds es r)
 
   abbrev pub AllPoints : List Extension → Type 0
   AllPoints es = AllByRecursion (λ (t : Time). t.point.0 < count es) (fixed_of es)

@@ -1,8 +1,10 @@
-ghost use Rattle.std.specs.Prelude.{◌≡◌, [], IfOk};
+ghost use Rattle.std.specs.Prelude.{◌≡◌, ◌≢◌, [], IfOk, List};
 ghost use Rattle.hs_base.specs.Missions.{IsMission};
-ghost use Rattle.hs_base.specs.Checked.{Checked};
+ghost use Rattle.hs_base.specs.Checked.{Checked, joined};
+ghost use Rattle.hs_base.specs.declared.plan.Extension.{Extension};
+ghost use Rattle.plan_check.specs.Planned.{Joins};
 
-use hs_base::{Copies, List, Memory, Mission, Plan};
+use hs_base::{Copies, Extension, List, Memory, Mission, Plan};
 use std::alloc::Global;
 use std::marker::Model;
 
@@ -37,6 +39,26 @@ impl CheckedPlan {
                 extensions: List::new(alloc),
             },
         })
+    }
+
+    /// The plan with a further extension that keeps the rules: what is known isn't checked again.
+    pub fn joined(&self, alloc: Global, extension: Extension) -> Result<CheckedPlan, Memory>
+        requires { Checked self.now.mission (joined self.now.plan.extensions extension) }
+        ensures { IfOk result (Joins self.now extension) }
+    {
+        let mut plan = self.plan.copy(alloc)?;
+        plan.extensions.push(extension)?;
+        Ok(CheckedPlan::of(self.mission.copy(alloc)?, plan))
+    }
+
+    /// The last extension of a plan that has one; the others are let go.
+    pub fn into_last(self) -> Extension
+        requires { self.plan.extensions ≢ [] }
+        ensures { (es : List Extension) (e : Extension) → self.plan.extensions ≡ joined es e → result ≡ e }
+    {
+        let mut extensions = self.plan.extensions.into_vec();
+        let last = extensions.len() - 1;
+        extensions.swap_remove(last)
     }
 
     /// A checked plan for a mission.

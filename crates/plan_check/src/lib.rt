@@ -4,6 +4,7 @@
 mod checked_plan;
 mod checking;
 mod claims;
+mod filter;
 mod fixed;
 mod goals;
 mod laws;
@@ -17,6 +18,7 @@ mod timelines;
 
 pub use checked_plan::CheckedPlan;
 pub use checking::check;
+pub use filter::{AllPlans, Filter};
 pub use laws::{
     schedules_of_a_checked_plan_make_legal_timelines, schedules_of_a_checked_plan_restrict,
 };

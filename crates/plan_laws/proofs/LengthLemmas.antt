@@ -111,6 +111,12 @@ number_at a zero j below = absurd (omega arith)
 number_at a (suc n) zero below = let e : a ≡ a + 0 = omega arith in ap Some e
 number_at a (suc n) (suc j) below = let e : a + 1 + j ≡ a + suc j = omega arith in number_at (a + 1) n j (omega arith) ∙ ap Some e
 
+-- and the other way round
+pub number_is : (a n j x : ℕ) → slice_get (numbers_from a n) j ≡ Some x → (x ≡ a + j) × (j < n)
+number_is a zero j x is = absurd (cc)
+number_is a (suc n) zero x is = let same : a ≡ x = cc in (let e : a ≡ a + 0 = omega arith in sym same ∙ e, omega arith)
+number_is a (suc n) (suc j) x is = let r = number_is (a + 1) n j x is in (omega arith, omega arith)
+
 points-push : (m : Mission) (s : Schedule) (before : List Extension) (e : Extension) → Meets (new_bounds m before e) s → PointsIn s before → PointsIn s (before ++ e ∷ [])
 points-push m s before e h p = record { each = each }
   where

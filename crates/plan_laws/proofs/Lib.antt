@@ -1,6 +1,7 @@
 pub mod ScheduleLemmas
 pub mod PlanLemmas
 pub mod ChainLemmas
+pub mod InsideLemmas
 pub mod LengthLemmas
 pub mod SpanLemmas
 pub mod GoalLemmas

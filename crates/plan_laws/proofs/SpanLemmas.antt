@@ -25,7 +25,7 @@ some_extension [] v i below = absurd (omega arith)
 some_extension (e ∷ es) v i below = omega arith
 
 -- the horizon's point is at the horizon
-horizon_time : (m : Mission) (s : Schedule) (before : List Extension) (e : Extension) (g : Horizon) → Meets (new_bounds m before e) s → slice_get m.horizons (length before) ≡ Some g → s (hor (before ++ e ∷ []) (length before + 1)) ≡ g.tick
+pub horizon_time : (m : Mission) (s : Schedule) (before : List Extension) (e : Extension) (g : Horizon) → Meets (new_bounds m before e) s → slice_get m.horizons (length before) ≡ Some g → s (hor (before ++ e ∷ []) (length before + 1)) ≡ g.tick
 horizon_time m s before e g h is =
     let k = length before + 1 in
     let at : length before ≡ k - 1 = omega arith in

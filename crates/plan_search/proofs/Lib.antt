@@ -1,3 +1,4 @@
+pub mod AnswerLemmas
 pub mod FewLemmas
 pub mod SearchLemmas
 pub mod TurnLemmas

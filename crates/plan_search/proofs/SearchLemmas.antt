@@ -1,6 +1,5 @@
 -- The turns of a search.
 use Rattle.std.proofs.Common.{◌≡◌, ℕ, zero, suc, ◌+◌, ◌-◌, ◌<◌, ◌≤◌, true, false, Bool, List, [], ◌∷◌, ◌++◌, append-nil, append_assoc, drop, length, length-append, slice_get, take, Some, refl, sym, ap, ◌∙◌, subst, arith, inl, inr}
-use Rattle.std.proofs.lemmas.Bool.{false≢true}
 use Rattle.std.proofs.lemmas.List.{length-take-le}
 use Rattle.std.specs.List.{AllByRecursion}
 use Rattle.hs_base.specs.Checked.{Checked, joined}
@@ -11,7 +10,7 @@ use Rattle.base_laws.proofs.ListLemmas.{EachAfter-more, EachAfter-push, each_bot
 use Rattle.plan_search.specs.Searched.{IsFrame, IsSearched, Reaches, left_below, node_of, path_to, plan_at}
 use Rattle.plan_search.specs.declared.frames.Frame.{Frame}
 use Rattle.search_laws.proofs.TreeLemmas.{finished_checked, walk_made}
-use Rattle.search_laws.proofs.WalkLemmas.{preorder_more}
+use Rattle.search_laws.proofs.WalkLemmas.{leads_to_budget, leads_to_none, leads_to_plan, preorder_more}
 use Rattle.search_tree.specs.Begun.{Begun}
 use Rattle.search_tree.specs.Extends.{extension}
 use Rattle.search_tree.specs.Flaws.{flat_map_from, flaws}
@@ -20,7 +19,7 @@ use Rattle.search_tree.specs.Partial.{begin}
 use Rattle.search_tree.specs.PartialBounds.{HasSchedule}
 use Rattle.search_tree.specs.Parts.{do_parts}
 use Rattle.search_tree.specs.Resolvers.{resolve, resolvers}
-use Rattle.search_tree.specs.Search.{FindsWhere, IsTaken, Kids, Node, offspring, root}
+use Rattle.search_tree.specs.Search.{FindsWhere, FindsWhereAt, IsTaken, Kids, Node, offspring, root}
 use Rattle.search_tree.specs.Tree.{NoneEnds, Preorder, budget, no_plan, plan}
 use Rattle.search_tree.specs.declared.flaw.Flaw.{Flaw}
 use Rattle.search_tree.specs.declared.flaw.Resolver.{Resolver}
@@ -94,7 +93,7 @@ module _ (m : Mission) (b : Begun) where
         frames_same parts more (before ++ f ∷ []) fs h.1 k.1,
       )
 
-  module _ (takes : Mission → List Extension → Bool) where
+  module _ (takes : Mission → List Extension → Type 0) where
     abbrev pub Ends : Node → Extension → Type 0
     Ends = IsTaken takes m b
 
@@ -175,10 +174,10 @@ module _ (m : Mission) (b : Begun) where
         record { frames = x.frames; seen = s.0; walk = s.1; none = s.2; many = s.3 }
 
     -- it is finished, and not taken
-    pub searched_leaf : (parts : List Part) (frames : List Frame) (n : Node) (count : ℕ) → Reaches takes m b parts frames n count → HasSchedule m b n.plan → flaws m b n.plan ≡ [] → takes m (joined b.base (extension m b n.plan)) ≡ false → IsSearched takes m b parts frames (count + 1)
+    pub searched_leaf : (parts : List Part) (frames : List Frame) (n : Node) (count : ℕ) → Reaches takes m b parts frames n count → HasSchedule m b n.plan → flaws m b n.plan ≡ [] → (takes m (joined b.base (extension m b n.plan)) → ⊥) → IsSearched takes m b parts frames (count + 1)
     searched_leaf parts frames n count x ahead flawless left_out =
         let none : offspring m b n ≡ [] = ap (λ (fs : List Flaw). elim fs [ [] ↦ [] | (f ∷ fs) ↦ flat_map_from (λ i r. child_of n f i r ∷ []) 0 (resolvers m b n.plan f) ]) flawless in
-        let s = seen_more parts frames n count [] x (inl (ahead, sym none)) (λ e t. false≢true (sym left_out ∙ ap (λ e. takes m (joined b.base e)) (sym t.finished.is) ∙ t.taken)) in
+        let s = seen_more parts frames n count [] x (inl (ahead, sym none)) (λ e t. left_out (subst (λ e. takes m (joined b.base e)) t.finished.is t.taken)) in
         record { frames = x.frames; seen = s.0; walk = s.1; none = s.2; many = s.3 }
 
     -- it has a flaw
@@ -213,17 +212,24 @@ module _ (m : Mission) (b : Begun) where
         marked before (f ∷ fs) k r l = let w = k.0.mark in ((omega arith, r.0), marked (before ++ f ∷ []) fs k.1 r.1 l)
 
     -- it is finished, and taken
-    pub finds_plan : (parts : List Part) (frames : List Frame) (n : Node) (e : Extension) (count limit : ℕ) → Reaches takes m b parts frames n count → HasSchedule m b n.plan → flaws m b n.plan ≡ [] → e ≡ extension m b n.plan → takes m (joined b.base e) ≡ true → count < limit → FindsWhere takes m b limit (plan e)
-    finds_plan parts frames n e count limit x ahead flawless is chosen below =
-        (x.seen, n, left_below m b parts [] frames, x.walk, x.none, record { finished = record { schedule = ahead; flawless = flawless; is = is }; taken = chosen }, let many = x.many in omega arith)
+    pub finds_plan : (parts : List Part) (frames : List Frame) (n : Node) (e : Extension) (count : ℕ) → Reaches takes m b parts frames n count → HasSchedule m b n.plan → flaws m b n.plan ≡ [] → e ≡ extension m b n.plan → takes m (joined b.base e) → FindsWhereAt takes m b (count + 1) (plan e)
+    finds_plan parts frames n e count x ahead flawless is chosen =
+        subst (λ k. FindsWhereAt takes m b (k + 1) (plan e)) x.many
+        (leads_to_plan (Kids m b) Ends (λ n. n.path) (root m b) x.seen (n ∷ left_below m b parts [] frames) x.walk x.none n (left_below m b parts [] frames) e refl
+        (record { finished = record { schedule = ahead; flawless = flawless; is = is }; taken = chosen }))
 
     -- the budget ends before the next child
-    pub finds_budget : (parts : List Part) (frames : List Frame) (n : Node) (path : List ℕ) (count limit : ℕ) → Reaches takes m b parts frames n count → path ≡ n.path → count ≡ limit → FindsWhere takes m b limit (budget path)
-    finds_budget parts frames n path count limit x is same = (x.seen, n, left_below m b parts [] frames, x.walk, x.none, x.many ∙ same, is)
+    pub finds_budget : (parts : List Part) (frames : List Frame) (n : Node) (path : List ℕ) (count : ℕ) → Reaches takes m b parts frames n count → path ≡ n.path → FindsWhereAt takes m b count (budget path)
+    finds_budget parts frames n path count x is =
+        subst (λ k. FindsWhereAt takes m b k (budget path)) x.many
+        (subst (λ l. FindsWhereAt takes m b (length x.seen) (budget l)) (sym is)
+        (leads_to_budget (Kids m b) Ends (λ n. n.path) (root m b) x.seen (n ∷ left_below m b parts [] frames) x.walk x.none n (left_below m b parts [] frames) refl))
 
     -- nothing is left
-    pub finds_none : (parts : List Part) (frames : List Frame) (count limit : ℕ) → IsSearched takes m b parts frames count → frames ≡ [] → count ≤ limit → FindsWhere takes m b limit no_plan
-    finds_none parts frames count limit s none below = (s.seen, subst (λ l. Preorder (Kids m b) (root m b ∷ []) s.seen l) (ap (left_below m b parts []) none) s.walk, s.none, let many = s.many in omega arith)
+    pub finds_none : (parts : List Part) (frames : List Frame) (count : ℕ) → IsSearched takes m b parts frames count → frames ≡ [] → FindsWhereAt takes m b count no_plan
+    finds_none parts frames count s none =
+        subst (λ k. FindsWhereAt takes m b k no_plan) s.many
+        (leads_to_none (Kids m b) Ends (λ n. n.path) (root m b) s.seen (left_below m b parts [] frames) s.walk s.none (ap (left_below m b parts []) none))
 
     -- where it begins
     pub reaches_root : Reaches takes m b [] [] (root m b) 0

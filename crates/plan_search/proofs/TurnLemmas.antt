@@ -4,7 +4,7 @@ use Rattle.std.proofs.lemmas.Bool.{cases_eq, false≢true}
 use Rattle.std.proofs.lemmas.List.{length-take-le, take-append-drop}
 use Rattle.std.proofs.lemmas.Option.{slice_get-get_or}
 use Rattle.std.specs.List.{AllByRecursion}
-use Rattle.std.specs.Prelude.{Contains, IfOk, get_or}
+use Rattle.std.specs.Prelude.{Contains, IfErr, IfNone, IfOk, None, Option, get_or}
 use Rattle.hs_base.specs.Walks.{EachAfter}
 use Rattle.hs_base.specs.declared.mission.Mission.{Mission}
 use Rattle.hs_base.specs.declared.plan.Extension.{Extension}
@@ -25,7 +25,7 @@ use Rattle.search_tree.specs.Partial.{begin}
 use Rattle.search_tree.specs.PartialBounds.{HasSchedule}
 use Rattle.search_tree.specs.Parts.{do_parts}
 use Rattle.search_tree.specs.Resolvers.{parts_of, resolve, resolvers}
-use Rattle.search_tree.specs.Search.{FindsWhere}
+use Rattle.search_tree.specs.Search.{FindsWhereAt}
 use Rattle.search_tree.specs.Tree.{budget}
 use Rattle.search_tree.specs.declared.flaw.Resolver.{Resolver}
 use Rattle.search_tree.specs.declared.flaw.Resolver.TheVariants.{Defer}
@@ -36,7 +36,7 @@ use Rattle.timeline_db.specs.declared.shut.Shut.{Shut}
 use Rattle.timeline_db.specs.declared.shut.Shut.TheVariants.{Cycle, Full, Memory}
 use Rattle.timeline_db.specs.Plannings.{IsOpen, Planning, partial_of}
 
-module _ (takes : Mission → List Extension → Bool) where
+module _ (takes : Mission → List Extension → Type 0) where
   -- the last frame
   pub last_frame : (m : Mission) (b : Begun) (parts : List Part) (fs : List Frame) (g : Frame) (count : ℕ) → IsSearched takes m b parts (fs ++ g ∷ []) count → IsFrame m b parts fs g
   last_frame m b parts fs g count s = (EachAfter-push (IsFrame m b parts) [] fs g s.frames).1
@@ -98,14 +98,14 @@ module _ (takes : Mission → List Extension → Bool) where
       path_ready d fs g count may allowed (subst (λ x. IsSearched takes x d.begun d.parts (fs ++ g ∷ []) count) (sym mission) (subst (λ x. IsSearched takes m x d.parts (fs ++ g ∷ []) count) (sym begun) (subst (λ l. IsSearched takes m b d.parts l count) whole s)))
 
   -- the budget ends before the next child
-  pub ends_here : (m : Mission) (b : Begun) (parts : List Part) (all fs : List Frame) (g : Frame) (path : List ℕ) (count limit : ℕ) → IsSearched takes m b parts all count → all ≡ fs ++ g ∷ [] → g.next < length g.resolvers → path ≡ path_to fs ++ g.next ∷ [] → count ≡ limit → FindsWhere takes m b limit (budget path)
-  ends_here m b parts all fs g path count limit s0 whole below is same =
+  pub ends_here : (m : Mission) (b : Begun) (parts : List Part) (all fs : List Frame) (g : Frame) (path : List ℕ) (count : ℕ) → IsSearched takes m b parts all count → all ≡ fs ++ g ∷ [] → g.next < length g.resolvers → path ≡ path_to fs ++ g.next ∷ [] → FindsWhereAt takes m b count (budget path)
+  ends_here m b parts all fs g path count s0 whole below is =
       let s = subst (λ l. IsSearched takes m b parts l count) whole s0 in
       let nothing : Resolver = Defer in
       let r = get_or g.resolvers g.next nothing in
       let f = last_frame m b parts fs g count s in
       let x = reached m b parts parts (drop g.mark parts) fs g r count s below (slice_get-get_or g.resolvers g.next nothing below) (sym (take-append-drop g.mark parts)) in
-      finds_budget m b takes parts (fs ++ next_frame g ∷ []) (child_of (node_of m b parts fs g) g.flaw g.next r) path count limit x is same
+      finds_budget m b takes parts (fs ++ next_frame g ∷ []) (child_of (node_of m b parts fs g) g.flaw g.next r) path count x is
 
 pub below_budget : (a n : ℕ) → a ≤ n → (a ≡ n → ⊥) → a < n
 below_budget a n most other = elim (cases_eq a n) [ inl same ↦ absurd (other same) | inr differ ↦ omega arith ]
@@ -114,6 +114,15 @@ below_budget a n most other = elim (cases_eq a n) [ inl same ↦ absurd (other s
 pub if_ok : {X E : Type 0} (r : Result X E) (P Q : X → Type 0) → ((x : X) → P x → Q x) → IfOk r P → IfOk r Q
 if_ok (Ok x) P Q f h = f x h
 if_ok (Err e) P Q f h = tt
+
+pub if_err : {X E : Type 0} (r : Result X E) (P Q : E → Type 0) → ((e : E) → P e → Q e) → IfErr r P → IfErr r Q
+if_err (Ok x) P Q f h = tt
+if_err (Err e) P Q f h = f e h
+
+-- what follows of no answer
+pub if_none : {X : Type 0} (o : Option X) (P : Type 0) → ((x : X) → o ≡ Some x → ⊥) → IfNone o P → P
+if_none None P h k = k
+if_none (Some x) P h k = absurd (h x refl)
 
 -- an answer that isn't want of memory tells of no schedule
 pub cycle_only : (e : Shut) (P : Type 0) → is_memory e ≡ false → IfCycle e P → P

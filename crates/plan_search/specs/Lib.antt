@@ -1,3 +1,4 @@
+pub mod Answered
 pub mod Descends
 pub mod Searched
 pub mod Told

@@ -1,6 +1,6 @@
 -- How far a search has come.
 use Rattle.std.specs.List.{AllByRecursion}
-use Rattle.std.specs.Prelude.{Bool, List, [], drop, length, map, take, ℕ, ◌++◌, ◌-◌, ◌<◌, ◌∷◌, ◌≡◌, ◌≤◌}
+use Rattle.std.specs.Prelude.{List, [], drop, length, map, take, ℕ, ◌++◌, ◌-◌, ◌<◌, ◌∷◌, ◌≡◌, ◌≤◌}
 use Rattle.hs_base.specs.Walks.{EachAfter}
 use Rattle.hs_base.specs.declared.mission.Mission.{Mission}
 use Rattle.hs_base.specs.declared.plan.Extension.{Extension}
@@ -43,7 +43,7 @@ pub record IsFrame (m : Mission) (b : Begun) (parts : List Part) (before : List 
   pub below : AllByRecursion (λ (g : Frame). (g.mark ≤ f.mark) × (0 < g.next)) before
 
 -- so many nodes were taken in preorder, none of which ends the search, and the trees below the frames are left
-pub record IsSearched (takes : Mission → List Extension → Bool) (m : Mission) (b : Begun) (parts : List Part) (stack : List Frame) (count : ℕ) : Type 0 where
+pub record IsSearched (takes : Mission → List Extension → Type 0) (m : Mission) (b : Begun) (parts : List Part) (stack : List Frame) (count : ℕ) : Type 0 where
   pub frames : EachAfter (IsFrame m b parts) [] stack
   pub seen : List Node
   pub walk : Preorder (Kids m b) (root m b ∷ []) seen (left_below m b parts [] stack)
@@ -51,7 +51,7 @@ pub record IsSearched (takes : Mission → List Extension → Bool) (m : Mission
   pub many : length seen ≡ count
 
 -- the same, and the next node is n, before the trees below the frames
-pub record Reaches (takes : Mission → List Extension → Bool) (m : Mission) (b : Begun) (parts : List Part) (stack : List Frame) (n : Node) (count : ℕ) : Type 0 where
+pub record Reaches (takes : Mission → List Extension → Type 0) (m : Mission) (b : Begun) (parts : List Part) (stack : List Frame) (n : Node) (count : ℕ) : Type 0 where
   pub frames : EachAfter (IsFrame m b parts) [] stack
   pub ready : AllByRecursion (λ (f : Frame). 0 < f.next) stack
   pub path : n.path ≡ path_to stack

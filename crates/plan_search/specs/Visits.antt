@@ -1,8 +1,9 @@
 -- What a visit of a node finds.
-use Rattle.std.specs.Prelude.{Bool, List, [], false, true, ◌≡◌, length}
+use Rattle.std.specs.Prelude.{List, [], ◌≡◌, length}
 use Rattle.hs_base.specs.Checked.{joined}
 use Rattle.hs_base.specs.declared.mission.Mission.{Mission}
 use Rattle.hs_base.specs.declared.plan.Extension.{Extension}
+use Rattle.plan_check.specs.Planned.{Planned}
 use Rattle.plan_search.specs.declared.frames.Frame.{Frame}
 use Rattle.plan_search.specs.declared.visiting.Visited.{Visited}
 use Rattle.plan_search.specs.declared.visiting.Visited.TheVariants.{Inner, Leaf, Plan}
@@ -19,13 +20,13 @@ pub record IsFirstFrame (d : Planning) (f : Frame) : Type 0 where
   pub next : f.next ≡ 0
   pub mark : f.mark ≡ length d.parts
 
--- the partial plan has no flaw, and whether the plan with its extension is taken
-pub record IsComplete (takes : Mission → List Extension → Bool) (d : Planning) (e : Extension) (answer : Bool) : Type 0 where
+-- the partial plan has no flaw, and c is the plan with its extension
+pub record IsWhole (d : Planning) (c : Planned) : Type 0 where
   pub flawless : flaws d.mission d.begun (partial_of d) ≡ []
-  pub is : e ≡ extension d.mission d.begun (partial_of d)
-  pub taken : takes d.mission (joined d.begun.base e) ≡ answer
+  pub mission : c.mission ≡ d.mission
+  pub is : c.plan.extensions ≡ joined d.begun.base (extension d.mission d.begun (partial_of d))
 
-abbrev pub IsVisited : (Mission → List Extension → Bool) → Planning → Visited → Type 0
+abbrev pub IsVisited : (Mission → List Extension → Type 0) → Planning → Visited → Type 0
 IsVisited takes d (Inner f) = IsFirstFrame d f
-IsVisited takes d (Plan e) = IsComplete takes d e true
-IsVisited takes d Leaf = IsComplete takes d (extension d.mission d.begun (partial_of d)) false
+IsVisited takes d (Plan c) = IsWhole d c × takes d.mission c.plan.extensions
+IsVisited takes d Leaf = (flaws d.mission d.begun (partial_of d) ≡ []) × (takes d.mission (joined d.begun.base (extension d.mission d.begun (partial_of d))) → ⊥)

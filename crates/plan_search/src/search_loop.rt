@@ -1,5 +1,6 @@
-ghost use Rattle.std.specs.Prelude.{List, [], ℕ, IfNone, IfOk, IfSome, OnOk, length, ◌++◌, ◌+◌, ◌<◌, ◌∷◌, ◌≡◌, ◌≤◌};
+ghost use Rattle.std.specs.Prelude.{List, [], ℕ, IfErr, IfNone, IfOk, IfSome, OnOk, length, ◌++◌, ◌+◌, ◌<◌, ◌∷◌, ◌≡◌, ◌≤◌};
 ghost use Rattle.plan_check.specs.Seen.{seen};
+ghost use Rattle.plan_search.specs.Answered.{IsNoneFound, IsPlanAt, IsPlanFound};
 ghost use Rattle.plan_search.specs.Descends.{Descends, is_memory, plan_of};
 ghost use Rattle.plan_search.specs.Searched.{IsSearched, Reaches, path_to};
 ghost use Rattle.plan_search.specs.Told.{told};
@@ -7,20 +8,18 @@ ghost use Rattle.search_tree.specs.Begun.{begun_of};
 ghost use Rattle.search_tree.specs.Flaws.{flaws};
 ghost use Rattle.search_tree.specs.Outset.{MayBegin};
 ghost use Rattle.search_tree.specs.Resolvers.{resolvers};
-ghost use Rattle.search_tree.specs.Search.{FindsPlan, FindsWhere};
-ghost use Rattle.search_tree.specs.Tree.{plan};
+ghost use Rattle.search_tree.specs.Search.{FindsPlan, FindsPlanAt, FindsWhere, FindsWhereAt};
 ghost use Rattle.timeline_db.specs.Heads.{IsHead};
 ghost use Rattle.timeline_db.specs.Plannings.{IsOpen, partial_of};
 
-use crate::filter::{AllPlans, Filter};
 use crate::found::Found;
 use crate::frames::{Frame, Frames, path_of};
 use crate::steps::Steps;
+use crate::unplanned::Unplanned;
 use crate::visiting::{Visited, visit};
 use compat_resolve::apply;
-use hs_base::{Extension, List, Memory};
-use plan_check::{CheckedPlan, Snapshot};
-use search_laws::a_search_that_takes_each_plan_is_a_search;
+use hs_base::{List, Memory};
+use plan_check::{AllPlans, CheckedPlan, Filter, Snapshot};
 use std::alloc::Global;
 use std::sync::ledger::Ledger;
 use timeline_db::{Db, Shut};
@@ -61,13 +60,13 @@ fn enter<F: Filter>(
     frames: &mut Frames,
     filter: &mut F,
     taken: u64,
-) -> Result<Option<Extension>, Memory>
+) -> Result<Option<CheckedPlan>, Memory>
     requires mission { base.now.mission ≡ db.now.mission }
     requires plan { base.now.plan.extensions ≡ db.now.begun.base }
     requires ahead { IsOpen db.now }
     requires reached { Reaches (F.test filter.old) db.now.mission db.now.begun db.now.parts frames.old (record { path = path_to frames.old; plan = partial_of db.now }) taken }
     ensures more { IfOk result (λ o. IfNone o (IsSearched (F.test filter.old) db.now.mission db.now.begun db.now.parts frames.new (taken + 1))) }
-    ensures found { IfOk result (λ o. IfSome o (λ e. (limit : ℕ) → taken < limit → FindsWhere (F.test filter.old) db.now.mission db.now.begun limit (plan e))) }
+    ensures found { IfOk result (λ o. IfSome o (IsPlanAt (F.test filter.old) db.now.mission db.now.begun (taken + 1))) }
     ensures few { OnOk result (length frames.new ≤ length frames.old + 1) }
     ensures same { filter.new ≡ filter.old }
 {
@@ -77,7 +76,7 @@ fn enter<F: Filter>(
             frames.push(frame)?;
             Ok(None)
         }
-        Visited::Plan(extension) => Ok(Some(extension)),
+        Visited::Plan(plan) => Ok(Some(plan)),
         Visited::Leaf => Ok(None),
     }
 }
@@ -92,7 +91,7 @@ fn take_child<F: Filter>(
     frame: Frame,
     filter: &mut F,
     taken: u64,
-) -> Result<Option<Extension>, Memory>
+) -> Result<Option<CheckedPlan>, Memory>
     requires mission { base.now.mission ≡ db.old.mission }
     requires plan { base.now.plan.extensions ≡ db.old.begun.base }
     requires next { frame.next < length frame.resolvers }
@@ -100,7 +99,7 @@ fn take_child<F: Filter>(
     ensures mission { OnOk result (db.new.mission ≡ db.old.mission) }
     ensures begun { OnOk result (db.new.begun ≡ db.old.begun) }
     ensures more { IfOk result (λ o. IfNone o (IsSearched (F.test filter.old) db.old.mission db.old.begun db.new.parts frames.new (taken + 1))) }
-    ensures found { IfOk result (λ o. IfSome o (λ e. (limit : ℕ) → taken < limit → FindsWhere (F.test filter.old) db.old.mission db.old.begun limit (plan e))) }
+    ensures found { IfOk result (λ o. IfSome o (IsPlanAt (F.test filter.old) db.old.mission db.old.begun (taken + 1))) }
     ensures few { OnOk result (length frames.new ≤ length frames.old + 2) }
     ensures same { filter.new ≡ filter.old }
 {
@@ -125,13 +124,14 @@ fn search_below<F: Filter, L: Ledger>(
     filter: &mut F,
     budget: u64,
     steps: &mut Steps<L>,
-) -> Result<Found, Memory>
+) -> Result<CheckedPlan, Unplanned>
     requires mission { base.now.mission ≡ db.old.mission }
     requires plan { base.now.plan.extensions ≡ db.old.begun.base }
     requires searched { IsSearched (F.test filter.old) db.old.mission db.old.begun db.old.parts frames.old 1 }
     requires some { 0 < budget }
-    ensures found { IfOk result (λ f. FindsWhere (F.test filter.old) db.old.mission db.old.begun budget (told f)) }
-    ensures steps { steps.new + 1 ≤ steps.old + budget }
+    ensures planned { IfOk result (IsPlanFound (F.test filter.old) db.old.mission db.old.begun budget steps.old (steps.new + 1)) }
+    ensures unplanned { IfErr result (IsNoneFound (F.test filter.old) db.old.mission db.old.begun budget steps.old (steps.new + 1)) }
+    ensures few { steps.new + 1 ≤ steps.old + budget }
     ensures same { filter.new ≡ filter.old }
 {
     let mut taken: u64 = 1;
@@ -139,43 +139,44 @@ fn search_below<F: Filter, L: Ledger>(
         if frame.next < frame.resolvers.len() {
             if taken == budget {
                 db.was_allowed();
-                return Ok(Found::Budget(path_of(alloc, frames.as_slice(), frame.next)?));
+                return Err(Unplanned::Budget(path_of(alloc, frames.as_slice(), frame.next)?));
             }
             steps.tick();
             let child = take_child(alloc, base, db, frames, frame, filter, taken)?;
-            if let Some(extension) = child {
-                return Ok(Found::Plan(extension));
+            if let Some(plan) = child {
+                return Ok(plan);
             }
             taken += 1;
         } else {
             frames.keep(frame.resolvers);
         }
     }
-    Ok(Found::NoPlan)
+    Err(Unplanned::NoPlan)
 }
 
-/// The first finished node of the first `budget` nodes in preorder whose plan the filter takes. A
-/// step is a node that was taken.
-pub fn search_where<F: Filter, L: Ledger>(
+/// The plan with the extension of the first finished node of the first `budget` nodes in preorder
+/// that the filter takes. A step is a node that was taken.
+pub(crate) fn plan_where<F: Filter, L: Ledger>(
     alloc: Global,
     snapshot: &Snapshot,
     filter: &mut F,
     budget: u64,
     steps: &mut Steps<L>,
-) -> Result<Found, Memory>
+) -> Result<CheckedPlan, Unplanned>
     requires { MayBegin snapshot.now.plan.mission (begun_of (seen snapshot.now)) }
-    ensures found { IfOk result (λ f. FindsWhere (F.test filter.old) snapshot.now.plan.mission (begun_of (seen snapshot.now)) budget (told f)) }
-    ensures steps { steps.new ≤ steps.old + budget }
+    ensures planned { IfOk result (IsPlanFound (F.test filter.old) snapshot.now.plan.mission (begun_of (seen snapshot.now)) budget steps.old steps.new) }
+    ensures unplanned { IfErr result (IsNoneFound (F.test filter.old) snapshot.now.plan.mission (begun_of (seen snapshot.now)) budget steps.old steps.new) }
+    ensures few { steps.new ≤ steps.old + budget }
     ensures same { filter.new ≡ filter.old }
 {
     if budget == 0 {
-        return Ok(Found::Budget(List::new(alloc)));
+        return Err(Unplanned::Budget(List::new(alloc)));
     }
     let mut db = Db::begin(alloc, snapshot)?;
     let mut frames = Frames::new(alloc);
     steps.tick();
     match enter(alloc, &snapshot.plan, &db, &mut frames, filter, 0)? {
-        Some(extension) => Ok(Found::Plan(extension)),
+        Some(plan) => Ok(plan),
         None => search_below(
             alloc,
             &snapshot.plan,
@@ -188,6 +189,29 @@ pub fn search_where<F: Filter, L: Ledger>(
     }
 }
 
+/// The extension of the first finished node of the first `budget` nodes in preorder whose plan the
+/// filter takes. The steps are as many as the nodes that lead to what is found.
+pub fn search_where<F: Filter, L: Ledger>(
+    alloc: Global,
+    snapshot: &Snapshot,
+    filter: &mut F,
+    budget: u64,
+    steps: &mut Steps<L>,
+) -> Result<Found, Memory>
+    requires { MayBegin snapshot.now.plan.mission (begun_of (seen snapshot.now)) }
+    ensures found { IfOk result (λ f. FindsWhere (F.test filter.old) snapshot.now.plan.mission (begun_of (seen snapshot.now)) budget (told f)) }
+    ensures steps { IfOk result (λ f. (nodes : ℕ) × FindsWhereAt (F.test filter.old) snapshot.now.plan.mission (begun_of (seen snapshot.now)) nodes (told f) × (steps.new ≡ steps.old + nodes)) }
+    ensures few { steps.new ≤ steps.old + budget }
+    ensures same { filter.new ≡ filter.old }
+{
+    match plan_where(alloc, snapshot, filter, budget, steps) {
+        Ok(plan) => Ok(Found::Plan(plan.into_last())),
+        Err(Unplanned::NoPlan) => Ok(Found::NoPlan),
+        Err(Unplanned::Budget(path)) => Ok(Found::Budget(path)),
+        Err(Unplanned::Memory) => Err(Memory),
+    }
+}
+
 /// The first plan of the search tree within the budget.
 pub fn search<L: Ledger>(
     alloc: Global,
@@ -197,9 +221,9 @@ pub fn search<L: Ledger>(
 ) -> Result<Found, Memory>
     requires { MayBegin snapshot.now.plan.mission (begun_of (seen snapshot.now)) }
     ensures found { IfOk result (λ f. FindsPlan snapshot.now.plan.mission (begun_of (seen snapshot.now)) budget (told f)) }
-    ensures steps { steps.new ≤ steps.old + budget }
+    ensures steps { IfOk result (λ f. (nodes : ℕ) × FindsPlanAt snapshot.now.plan.mission (begun_of (seen snapshot.now)) nodes (told f) × (steps.new ≡ steps.old + nodes)) }
+    ensures few { steps.new ≤ steps.old + budget }
 {
-    a_search_that_takes_each_plan_is_a_search();
     let mut all = AllPlans;
     search_where(alloc, snapshot, &mut all, budget, steps)
 }

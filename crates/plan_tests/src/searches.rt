@@ -1,12 +1,12 @@
-ghost use Rattle.std.specs.Prelude.{◌≡◌, ◌<◌, false, IfOk};
+ghost use Rattle.std.specs.Prelude.{◌≡◌, ◌<◌, IfOk};
 ghost use Rattle.hs_base.specs.Missions.{IsMission};
 ghost use Rattle.search_tree.specs.Begun.{begun_of};
 ghost use Rattle.plan_check.specs.Seen.{seen};
 ghost use Rattle.plan_search.specs.First.{outset as nothing_yet};
 
 use hs_base::{Copies, List, Memory, Mission};
-use plan_check::{CheckedPlan, Snapshot};
-use plan_search::{Filter, Found, Steps, Unplanned, first_plan, search_where};
+use plan_check::{CheckedPlan, Filter, Snapshot};
+use plan_search::{Found, Steps, Unplanned, first_plan, search_where};
 use sample_missions::{camera, camera_extension};
 use std::alloc::Global;
 use std::marker::Brand;
@@ -57,7 +57,7 @@ fn the_tenth_node_is_the_plan(rt: HostRuntime) -> Result<(), Fail> {
 struct NoPlans;
 
 impl Filter for NoPlans {
-    ghost test = { λ filter m es. false };
+    ghost test = { λ filter m es. ⊥ };
 
     fn takes(&mut self, _alloc: Global, _joined: &CheckedPlan) -> Result<bool, Memory> {
         Ok(false)

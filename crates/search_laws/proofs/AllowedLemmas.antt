@@ -55,7 +55,7 @@ find_has test [] j x is passes = absurd (cc)
 find_has test (y ∷ xs) zero x is passes = let same : y ≡ x = cc in let here : test y ≡ true = ap test same ∙ passes in (y, rw here refl)
 find_has test (y ∷ xs) (suc j) x is passes = let r = find_has test xs j x is passes in elim (cases_Bool (test y)) [ inl here ↦ (y, rw here refl) | inr fails ↦ (r.0, rw fails r.1) ]
 
-same_refl : (k : Kind) → same_kind k k ≡ true
+pub same_refl : (k : Kind) → same_kind k k ≡ true
 same_refl k = rw (eq-eqb k.sv.0 k.sv.0 refl, eq-eqb k.value.0 k.value.0 refl) refl
 
 -- a kind of a mission has a value

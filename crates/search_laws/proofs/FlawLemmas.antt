@@ -1,5 +1,5 @@
 -- What a flaw that is listed says of a partial plan.
-use Rattle.std.proofs.Common.{◌≡◌, ℕ, zero, suc, ◌+◌, ◌-◌, ◌≤◌, true, false, Bool, List, [], ◌∷◌, ◌++◌, append-nil, append_assoc, cond, get_or, length, length-append, map, slice_get, Option, Some, None, refl, sym, ap, ◌∙◌, subst, arith, inl, inr}
+use Rattle.std.proofs.Common.{◌≡◌, ℕ, zero, suc, ◌+◌, ◌-◌, ◌<◌, ◌≤◌, true, false, Bool, List, [], ◌∷◌, ◌++◌, append-nil, append_assoc, cond, get_or, length, length-append, map, slice_get, Option, Some, None, refl, sym, ap, ◌∙◌, subst, arith, inl, inr}
 use Rattle.std.proofs.lemmas.Bool.{cases_Bool, cases_lt, false≢true}
 use Rattle.std.proofs.lemmas.Option.{slice_get-get_or, slice_get-map, slice_get_within}
 use Rattle.std.specs.List.{AllByRecursion}
@@ -8,6 +8,7 @@ use Rattle.hs_base.specs.Needs.{needs_of}
 use Rattle.hs_base.specs.Schedule.{numbers_from}
 use Rattle.hs_base.specs.declared.mission.Mission.{Mission}
 use Rattle.base_laws.proofs.ListLemmas.{each_at, each_weaker, slice_get-append_left}
+use Rattle.plan_laws.proofs.LengthLemmas.{number_is}
 use Rattle.search_laws.proofs.HasLemmas.{Has, has_either, of_flat_map, of_flat_map_from, of_map}
 use Rattle.search_tree.proofs.CellLemmas.{given_cell, held_is, length-map', slice_get-past}
 use Rattle.search_tree.proofs.PlanOfNode.{zero_plus}
@@ -77,10 +78,10 @@ pub record HasSlot (p : Partial) (v i : ℕ) : Type 0 where
   pub slot : IsSlot i row
 
 module _ (m : Mission) (b : Begun) (p : Partial) where
-  -- the goal has no token; the need of a token that is there isn't served; there is a slot
+  -- the goal has no token; a need of a token that is there isn't served; there is a slot
   abbrev pub IsFlaw : Flaw → Type 0
   IsFlaw (GoalFlaw i) = slice_get p.goals i ≡ Some None
-  IsFlaw (NeedFlaw t j) = IsThere p t × (is_served b p (held_by p t) j ≡ false)
+  IsFlaw (NeedFlaw t j) = IsThere p t × (is_served b p (held_by p t) j ≡ false) × (j < length (needs_of m (held_by p t).kind))
   IsFlaw (GapFlaw v i) = HasSlot p v.0 i
 
   goal_is : (i : ℕ) (o : Option Held) (f : Flaw) → slice_get p.goals i ≡ Some o → Has (goal_flaws i o) f → IsFlaw f
@@ -94,7 +95,10 @@ module _ (m : Mission) (b : Begun) (p : Partial) where
         | inl served ↦ absurd (let e : Has [] f = rw served at j.2 in let g : slice_get [] e.0 ≡ Some f = e.1 in cc)
         | inr unserved ↦
             let e : Has (NeedFlaw (at v i) j.0 ∷ []) f = rw unserved at j.2 in
-            subst IsFlaw (has_one (NeedFlaw (at v i) j.0) f e) (record { row = r; is_row = is; cell = c; here = here }, ap (λ (x : Held). is_served b p x j.0) (held_is p v i r c is here) ∙ unserved)
+            let held = held_is p v i r c is here in
+            let number = number_is 0 (length (needs_of m c.held.kind)) j.1.0 j.0 j.1.1 in
+            let below : j.0 < length (needs_of m (held_by p (at v i)).kind) = omega (arith, number.0, number.1, ap (λ (x : Held). length (needs_of m x.kind)) held) in
+            subst IsFlaw (has_one (NeedFlaw (at v i) j.0) f e) (record { row = r; is_row = is; cell = c; here = here }, ap (λ (x : Held). is_served b p x j.0) held ∙ unserved, below)
       ]
 
   slot_here : (v : ℕ) (r : Row) (f : Flaw) → slice_get p.rows v ≡ Some r → Has (map (GapFlaw (record { 0 = v })) (slots r)) f → IsFlaw f

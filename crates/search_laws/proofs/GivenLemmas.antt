@@ -1,21 +1,19 @@
 -- The tokens and supports of the plan that is extended, in the rows of a partial plan.
-use Rattle.std.proofs.Common.{◌≡◌, ℕ, ◌+◌, ◌<◌, false, List, [], ◌∷◌, ◌++◌, length, map, slice_get, Some, nat_eq, refl, sym, ap, ◌∙◌, subst, arith}
+use Rattle.std.proofs.Common.{◌≡◌, ℕ, ◌+◌, ◌<◌, false, List, [], length, map, slice_get, Some, nat_eq, refl, sym, ap, ◌∙◌, subst, arith}
 use Rattle.std.proofs.lemmas.Option.{slice_get-get_or, slice_get-map, slice_get_within}
 use Rattle.std.specs.List.{AllByRecursion}
 use Rattle.std.specs.Prelude.{get_or, option_map}
-use Rattle.hs_base.specs.Checked.{KeepsOrderAt, KeepsRules, supports_of}
-use Rattle.hs_base.proofs.RuleLemmas.{order_kept}
+use Rattle.hs_base.specs.Checked.{supports_of}
 use Rattle.hs_base.specs.Points.{ending, place_of, points_of, stop, timeline_of, token_at, tokens_of}
-use Rattle.hs_base.specs.Walks.{EachAfter}
 use Rattle.hs_base.specs.declared.mission.Kind.{Kind}
 use Rattle.hs_base.specs.declared.mission.Mission.{Mission}
-use Rattle.hs_base.specs.declared.plan.Extension.{Extension}
 use Rattle.hs_base.specs.declared.plan.Support.{Support}
 use Rattle.hs_base.specs.declared.plan.TokenRef.{TokenRef}
-use Rattle.base_laws.proofs.ListLemmas.{each_at, each_both, slice_get-append_left, snoc_induction}
+use Rattle.base_laws.proofs.ListLemmas.{each_at, slice_get-append_left}
 use Rattle.base_laws.proofs.MissionLemmas.{each_filter}
-use Rattle.base_laws.proofs.PointLemmas.{of_variable, tokens-push}
+use Rattle.base_laws.proofs.PointLemmas.{of_variable}
 use Rattle.plan_laws.proofs.NeedLemmas.{ServedAt, all_served, need_found}
+use Rattle.plan_laws.proofs.InsideLemmas.{tokens_inside}
 use Rattle.search_laws.proofs.ApartLemmas.{one_place}
 use Rattle.search_laws.proofs.HasLemmas.{Has}
 use Rattle.search_laws.specs.Good.{IsGood}
@@ -27,21 +25,6 @@ use Rattle.search_tree.specs.Partial.{Partial, Row, at, cells, held_from, nobody
 use Rattle.search_tree.specs.Sound.{IsAt, IsRow}
 use Rattle.search_tree.specs.declared.held.Cell.{Cell}
 use Rattle.search_tree.specs.declared.held.Held.{Held}
-
--- what holds of each element after those before it, by itself
-each_alone : {X : Type 0} (P : List X → X → Type 0) (Q : X → Type 0) → ((before : List X) (x : X) → P before x → Q x) → (before xs : List X) → EachAfter P before xs → AllByRecursion Q xs
-each_alone P Q f before [] h = tt
-each_alone P Q f before (x ∷ xs) h = (f before x h.0, each_alone P Q f (before ++ x ∷ []) xs h.1)
-
--- the tokens of a plan are of the mission's variables
-pub tokens_inside : (m : Mission) (es : List Extension) → EachAfter (KeepsRules m) [] es → AllByRecursion (λ (k : Kind). k.sv.0 < length m.vars) (tokens_of es)
-tokens_inside m es rules = snoc_induction (λ es. AllByRecursion (λ (k : Kind). k.sv.0 < length m.vars) (tokens_of es)) (KeepsRules m) step [] es tt rules
-  where
-    step : (before : List Extension) (e : Extension) → KeepsRules m before e → AllByRecursion (λ (k : Kind). k.sv.0 < length m.vars) (tokens_of before) → AllByRecursion (λ (k : Kind). k.sv.0 < length m.vars) (tokens_of (before ++ e ∷ []))
-    step before e r h =
-        subst (AllByRecursion (λ (k : Kind). k.sv.0 < length m.vars)) (sym (tokens-push before e))
-        (each_both (λ (k : Kind). k.sv.0 < length m.vars) (tokens_of before) e.tokens h
-        (each_alone (KeepsOrderAt m before) (λ (k : Kind). k.sv.0 < length m.vars) (λ new k o. slice_get_within m.vars k.sv.0 o.var o.is_var) [] e.tokens (order_kept r).each))
 
 -- a token of the plan that is extended, in its row
 pub record IsGiven (b : Begun) (p : Partial) (t : TokenRef) : Type 0 where

@@ -31,7 +31,7 @@ few_part m b p (Supported t i by) h room few = few
 few_part m b p (MetGoal g by) h room few = few
 few_part m b p (Deferred t i) h room few = few
 
-left_more : (n k : ℕ) (ds : List Deferral) → n ≤ k → AllByRecursion (λ (d : Deferral). d.stop < n) ds → AllByRecursion (λ (d : Deferral). d.stop < k) ds
+pub left_more : (n k : ℕ) (ds : List Deferral) → n ≤ k → AllByRecursion (λ (d : Deferral). d.stop < n) ds → AllByRecursion (λ (d : Deferral). d.stop < k) ds
 left_more n k ds l h = each_weaker (λ (d : Deferral). d.stop < n) (λ (d : Deferral). d.stop < k) (λ d e. omega arith) ds h
 
 left_part : (m : Mission) (b : Begun) (p : Partial) (x : Part) → MayDo m b p x → IsGood m b p → AllByRecursion (λ (d : Deferral). d.stop < (do_part p x).points) (do_part p x).deferred

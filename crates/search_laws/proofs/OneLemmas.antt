@@ -1,5 +1,5 @@
 -- The search of a plan finds one answer.
-use Rattle.std.proofs.Common.{◌≡◌, ℕ, Bool, List, sym, ◌∙◌, inl, inr}
+use Rattle.std.proofs.Common.{◌≡◌, ℕ, List, sym, ◌∙◌, inl, inr}
 use Rattle.hs_base.specs.declared.mission.Mission.{Mission}
 use Rattle.hs_base.specs.declared.plan.Extension.{Extension}
 use Rattle.search_tree.specs.Begun.{Begun}
@@ -17,5 +17,5 @@ pub one_plan : (m : Mission) (b : Begun) (limit : ℕ) (f g : Found Extension) �
 one_plan m b limit f g p q = finds_one (Kids m b) (IsFinished m b) (λ n. n.path) (kids_one m b) (λ n d e h k. h.is ∙ sym k.is) (root m b) limit f g p q
 
 -- whichever plans it takes
-pub one_taken : (takes : Mission → List Extension → Bool) (m : Mission) (b : Begun) (limit : ℕ) (f g : Found Extension) → FindsWhere takes m b limit f → FindsWhere takes m b limit g → f ≡ g
+pub one_taken : (takes : Mission → List Extension → Type 0) (m : Mission) (b : Begun) (limit : ℕ) (f g : Found Extension) → FindsWhere takes m b limit f → FindsWhere takes m b limit g → f ≡ g
 one_taken takes m b limit f g p q = finds_one (Kids m b) (IsTaken takes m b) (λ n. n.path) (kids_one m b) (λ n d e h k. h.finished.is ∙ sym k.finished.is) (root m b) limit f g p q

@@ -17,7 +17,7 @@ use Rattle.hs_base.specs.declared.plan.Extension.{Extension}
 use Rattle.hs_base.specs.declared.plan.TokenRef.{TokenRef}
 use Rattle.base_laws.proofs.ListLemmas.{EachAfter-more, each_weaker}
 use Rattle.base_laws.proofs.PointLemmas.{tokens-push}
-use Rattle.search_laws.proofs.GivenLemmas.{tokens_inside}
+use Rattle.plan_laws.proofs.InsideLemmas.{tokens_inside}
 use Rattle.search_laws.proofs.OrderLemmas.{keeps_order}
 use Rattle.search_laws.proofs.RiseLemmas.{EachAfter-weaker}
 use Rattle.search_laws.proofs.ServedLemmas.{goals_none, served}
@@ -38,13 +38,13 @@ use Rattle.search_tree.specs.Sound.{IsGoalIn, IsIn}
 use Rattle.search_tree.specs.declared.held.Held.{Held}
 
 -- the goals' names
-goal_named : (p : Partial) (w i : ℕ) (os : List (Option Held)) → flat_map_from goal_flaws w os ≡ [] → AllByRecursion (IsGoalIn p) os → i < length os → (x : Held) × (slice_get os i ≡ Some (Some x)) × IsIn p x × (slice_get (flat_map (λ o. on_some o (λ x. ref_of p x ∷ [])) os) i ≡ Some (ref_of p x))
+pub goal_named : (p : Partial) (w i : ℕ) (os : List (Option Held)) → flat_map_from goal_flaws w os ≡ [] → AllByRecursion (IsGoalIn p) os → i < length os → (x : Held) × (slice_get os i ≡ Some (Some x)) × IsIn p x × (slice_get (flat_map (λ o. on_some o (λ x. ref_of p x ∷ [])) os) i ≡ Some (ref_of p x))
 goal_named p w i [] none are below = absurd (omega arith)
 goal_named p w i (None ∷ os) none are below = absurd (cc)
 goal_named p w zero (Some x ∷ os) none are below = (x, refl, are.0, refl)
 goal_named p w (suc i) (Some x ∷ os) none are below = goal_named p (suc w) i os none are.1 (omega arith)
 
-all_named : (p : Partial) (w : ℕ) (os : List (Option Held)) → flat_map_from goal_flaws w os ≡ [] → length (flat_map (λ o. on_some o (λ x. ref_of p x ∷ [])) os) ≡ length os
+pub all_named : (p : Partial) (w : ℕ) (os : List (Option Held)) → flat_map_from goal_flaws w os ≡ [] → length (flat_map (λ o. on_some o (λ x. ref_of p x ∷ [])) os) ≡ length os
 all_named p w [] none = refl
 all_named p w (None ∷ os) none = absurd (cc)
 all_named p w (Some x ∷ os) none = ap suc (all_named p (suc w) os none)

@@ -20,8 +20,9 @@ use Rattle.base_laws.proofs.MissionLemmas.{each_filter}
 use Rattle.base_laws.proofs.PointLemmas.{of_variable, tokens-push}
 use Rattle.plan_laws.proofs.LengthLemmas.{number_at}
 use Rattle.plan_laws.proofs.NeedLemmas.{need_found}
+use Rattle.plan_laws.proofs.InsideLemmas.{tokens_inside}
 use Rattle.search_laws.proofs.ApartLemmas.{one_place}
-use Rattle.search_laws.proofs.GivenLemmas.{given_support, row_here, same_token, tokens_inside}
+use Rattle.search_laws.proofs.GivenLemmas.{given_support, row_here, same_token}
 use Rattle.search_laws.proofs.HasLemmas.{Has, any_true, contains, has_filter, has_flat, has_from, has_left, has_right}
 use Rattle.search_laws.specs.Good.{IsGood}
 use Rattle.search_laws.specs.Lawful.{IsLawful, IsLeft}
@@ -53,7 +54,7 @@ module _ (m : Mission) (b : Begun) (p : Partial) (may : MayBegin m b) (good : Is
   pub goals_none : open_goals p ≡ []
   goals_none = (append_none (open_goals p) (open_needs m b p) (append_none (open_goals p ++ open_needs m b p) (open_slots p) flawless).0).0
 
-  needs_none : open_needs m b p ≡ []
+  pub needs_none : open_needs m b p ≡ []
   needs_none = (append_none (open_goals p) (open_needs m b p) (append_none (open_goals p ++ open_needs m b p) (open_slots p) flawless).0).1
 
   -- the new tokens are of the mission's variables
@@ -72,7 +73,7 @@ module _ (m : Mission) (b : Begun) (p : Partial) (may : MayBegin m b) (good : Is
       let is_row : slice_get p.rows t.sv.0 ≡ Some r = slice_get-get_or p.rows t.sv.0 _ (let e = good.sound.one_each in omega arith) in
       (r, is_row, slice_get-map_some (λ (c : Cell). c.held.kind) (cells r) t.place k (ap (λ l. slice_get l t.place) (sym (timeline_is m b p t.sv.0 r good.sound.rows is_row)) ∙ is))
 
-  need_served : (v i j : ℕ) (r : Row) (c : Cell) → slice_get p.rows v ≡ Some r → slice_get (cells r) i ≡ Some c → j < length (needs_of m c.held.kind) → is_served b p c.held j ≡ true
+  pub need_served : (v i j : ℕ) (r : Row) (c : Cell) → slice_get p.rows v ≡ Some r → slice_get (cells r) i ≡ Some c → j < length (needs_of m c.held.kind) → is_served b p c.held j ≡ true
   need_served v i j r c is here below =
       let row : flat_map_from (needs_open m b p (0 + v)) 0 (cells r) ≡ [] = flat_map_from-none (λ v (r : Row). flat_map_from (needs_open m b p v) 0 (cells r)) 0 v p.rows r needs_none is in
       let cell : needs_open m b p (0 + v) (0 + i) c ≡ [] = flat_map_from-none (needs_open m b p (0 + v)) 0 i (cells r) c row here in
@@ -90,7 +91,7 @@ module _ (m : Mission) (b : Begun) (p : Partial) (may : MayBegin m b) (good : Is
       inl (o, contains (supports_of es) o (subst (λ (l : List Support). Has l o) (sym (supports-push b.base (extension m b p))) (has_left (supports_of b.base) (extension m b p).supports o has)), same_token m b p may good o.token v i r c (given_support m b p may good o has) is here same, which)
 
   -- served by a new support
-  by_new : (v i j : ℕ) (r : Row) (c : Cell) (n : Need) → slice_get p.rows v ≡ Some r → slice_get (cells r) i ≡ Some c → j < length (needs_of m c.held.kind) → (s : Backing) → Has p.supports s → (nat_eq s.token.stop c.held.stop && nat_eq s.need j) ≡ true → IsServed m es (at v i) j n
+  pub by_new : (v i j : ℕ) (r : Row) (c : Cell) (n : Need) → slice_get p.rows v ≡ Some r → slice_get (cells r) i ≡ Some c → j < length (needs_of m c.held.kind) → (s : Backing) → Has p.supports s → (nat_eq s.token.stop c.held.stop && nat_eq s.need j) ≡ true → IsServed m es (at v i) j n
   by_new v i j r c n is here below s has fits =
       let test = λ (s : Backing). nat_eq s.token.stop c.held.stop && nat_eq s.need j in
       let name : Support = record { token = at (0 + v) (0 + i); need = j; by = ref_of p s.by } in

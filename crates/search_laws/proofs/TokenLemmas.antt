@@ -51,7 +51,7 @@ length_kinds (r ∷ rows) =
     omega arith
 
 -- counted by variables
-below_more : (n : ℕ) (ks : List Kind) → length (filter (λ k. nat_lt k.sv.0 (suc n)) ks) ≡ length (filter (λ k. nat_lt k.sv.0 n) ks) + length (timeline_of ks n)
+pub below_more : (n : ℕ) (ks : List Kind) → length (filter (λ k. nat_lt k.sv.0 (suc n)) ks) ≡ length (filter (λ k. nat_lt k.sv.0 n) ks) + length (timeline_of ks n)
 below_more n [] = omega arith
 below_more n (k ∷ ks) = elim (cases_lt k.sv.0 n) [
   | inl less ↦
@@ -80,7 +80,7 @@ below_more n (k ∷ ks) = elim (cases_lt k.sv.0 n) [
     differs : (x n : ℕ) → (x ≡ n → ⊥) → nat_eq x n ≡ false
     differs x n h = elim (cases_Bool (nat_eq x n)) [ inl t ↦ absurd (h (eqb-true x n t)) | inr t ↦ t ]
 
-none_below : (ks : List Kind) → length (filter (λ k. nat_lt k.sv.0 0) ks) ≡ 0
+pub none_below : (ks : List Kind) → length (filter (λ k. nat_lt k.sv.0 0) ks) ≡ 0
 none_below [] = refl
 none_below (k ∷ ks) = rw (le-ltb k.sv.0 0 (omega arith)) (none_below ks)
 
@@ -105,13 +105,13 @@ given_all b rows h inside =
     omega (arith, given_below b 0 rows h, none_below (tokens_of b.base), all_below (length rows) (tokens_of b.base) inside, ap (λ n. length (filter (λ (k : Kind). nat_lt k.sv.0 n) (tokens_of b.base))) e)
 
 -- a change of one row keeps them
-given_changed : (g : Row → Row) (v : ℕ) (rows : List Row) → ((r : Row) → (g r).given ≡ r.given) → given_of (at_place g v rows) ≡ given_of rows
+pub given_changed : (g : Row → Row) (v : ℕ) (rows : List Row) → ((r : Row) → (g r).given ≡ r.given) → given_of (at_place g v rows) ≡ given_of rows
 given_changed g v [] h = refl
 given_changed g zero (r ∷ rows) h = ap (λ l. length (l ++ flat_map (λ (r : Row). r.given) rows)) (h r)
 given_changed g (suc v) (r ∷ rows) h = omega (arith, length-append r.given (flat_map (λ (r : Row). r.given) (at_place g v rows)), length-append r.given (flat_map (λ (r : Row). r.given) rows), given_changed g v rows h)
 
 module _ (m : Mission) (b : Begun) (p : Partial) where
-  tokens_put : (v i : ℕ) (c : Cell) (r : Row) → slice_get p.rows v ≡ Some r → length (flat_map cells (at_place (put i c) v p.rows)) ≡ suc (tokens p)
+  pub tokens_put : (v i : ℕ) (c : Cell) (r : Row) → slice_get p.rows v ≡ Some r → length (flat_map cells (at_place (put i c) v p.rows)) ≡ suc (tokens p)
   tokens_put v i c r is = omega (arith, cells_count (at_place (put i c) v p.rows), cells_count p.rows, given_changed (put i c) v p.rows (λ r. refl), new_inserted m b p v i c r is)
 
   tokens_kept : (v : ℕ) (g : Row → Row) (r : Row) → slice_get p.rows v ≡ Some r → ((q : Row) → (g q).given ≡ q.given) → ((q : Row) → length (g q).added ≡ length q.added) → length (flat_map cells (at_place g v p.rows)) ≡ tokens p

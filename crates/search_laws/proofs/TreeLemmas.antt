@@ -1,5 +1,5 @@
 -- Every node of a search's tree is made by parts that were allowed, so that each plan that is found is checked.
-use Rattle.std.proofs.Common.{◌≡◌, ◌⊎◌, ℕ, ℤ, ◌+◌, ◌<◌, true, false, Bool, List, [], ◌∷◌, ◌++◌, length, slice_get, Some, refl, sym, ap, ◌∙◌, subst, inl, inr}
+use Rattle.std.proofs.Common.{◌≡◌, ◌⊎◌, ℕ, ℤ, ◌+◌, ◌<◌, false, List, [], ◌∷◌, ◌++◌, length, slice_get, Some, refl, sym, ap, ◌∙◌, subst, inl, inr}
 use Rattle.std.proofs.lemmas.Bool.{false≢true}
 use Rattle.std.proofs.lemmas.Option.{slice_get-map}
 use Rattle.std.specs.List.{AllByRecursion}
@@ -18,7 +18,7 @@ use Rattle.search_laws.proofs.LawfulLemmas.{lawful_all, root_lawful}
 use Rattle.search_laws.proofs.ResolverLemmas.{resolver_is, resolvers_within}
 use Rattle.search_laws.proofs.RulesLemmas.{plan_checked}
 use Rattle.search_laws.proofs.TokenLemmas.{within_all}
-use Rattle.search_laws.proofs.WalkLemmas.{finds_same, walk_keeps}
+use Rattle.search_laws.proofs.WalkLemmas.{finds_same, finds_same_at, walk_keeps}
 use Rattle.search_laws.specs.Good.{AreAllowed, IsGood}
 use Rattle.search_laws.specs.Lawful.{IsLawful, IsWithin}
 use Rattle.search_tree.proofs.PlanOfNode.{each_flat_map_from, row_done, zero_plus}
@@ -28,7 +28,7 @@ use Rattle.search_tree.specs.Outset.{MayBegin}
 use Rattle.search_tree.specs.Partial.{Partial, Row, begin, first_row}
 use Rattle.search_tree.specs.PartialBounds.{HasSchedule}
 use Rattle.search_tree.specs.Resolvers.{parts_of, resolve, resolvers}
-use Rattle.search_tree.specs.Search.{FindsPlan, FindsWhere, IsFinished, IsTaken, Kids, Node, offspring, root}
+use Rattle.search_tree.specs.Search.{FindsPlan, FindsPlanAt, FindsWhere, FindsWhereAt, IsFinished, IsTaken, Kids, Node, offspring, root}
 use Rattle.search_tree.specs.Tree.{Found, Preorder, plan}
 use Rattle.search_tree.specs.declared.flaw.Flaw.{Flaw}
 use Rattle.search_tree.specs.declared.flaw.Resolver.{Resolver}
@@ -62,7 +62,7 @@ module _ (m : Mission) (b : Begun) (may : MayBegin m b) where
   pub root_made : IsMade m b (root m b)
   root_made = record { good = good_root m b may; lawful = root_lawful m b may; within = inl refl }
 
-  child_made : (n : Node) (f : Flaw) (r : Resolver) (path : List ℕ) → IsMade m b n → Has (flaws m b n.plan) f → Has (resolvers m b n.plan f) r → IsMade m b (record { path = path; plan = resolve n.plan f r })
+  pub child_made : (n : Node) (f : Flaw) (r : Resolver) (path : List ℕ) → IsMade m b n → Has (flaws m b n.plan) f → Has (resolvers m b n.plan f) r → IsMade m b (record { path = path; plan = resolve n.plan f r })
   child_made n f r path h flaw has =
       let parts = parts_of n.plan f r in
       let allowed = resolver_allowed m b n.plan f r may h.good flaw has in
@@ -79,7 +79,7 @@ module _ (m : Mission) (b : Begun) (may : MayBegin m b) where
       by [] is = tt
       by (f ∷ fs) is = each_flat_map_from (IsMade m b) (λ i r. record { path = n.path ++ i ∷ []; plan = resolve n.plan f r } ∷ []) 0 (resolvers m b n.plan f) (λ i r at. (child_made n f r (n.path ++ (0 + i) ∷ []) h (0, ap (λ l. slice_get l 0) is) (i, at), tt))
 
-  kids_made : (n : Node) (ns : List Node) → IsMade m b n → Kids m b n ns → AllByRecursion (IsMade m b) ns
+  pub kids_made : (n : Node) (ns : List Node) → IsMade m b n → Kids m b n ns → AllByRecursion (IsMade m b) ns
   kids_made n ns h (inl k) = subst (AllByRecursion (IsMade m b)) (sym k.1) (offspring_made n h)
   kids_made n ns h (inr k) = subst (AllByRecursion (IsMade m b)) (sym k.1) tt
 
@@ -97,13 +97,16 @@ module _ (m : Mission) (b : Begun) (may : MayBegin m b) where
   pub found_checked : (limit : ℕ) (e : Extension) → FindsPlan m b limit (plan e) → Checked m (joined b.base e)
   found_checked limit e f = finished_checked f.1 e (walk_made f.0 (f.1 ∷ f.2) f.3).1.0 f.5
 
-  pub found_where_checked : (takes : Mission → List Extension → Bool) (limit : ℕ) (e : Extension) → FindsWhere takes m b limit (plan e) → Checked m (joined b.base e)
+  pub found_where_checked : (takes : Mission → List Extension → Type 0) (limit : ℕ) (e : Extension) → FindsWhere takes m b limit (plan e) → Checked m (joined b.base e)
   found_where_checked takes limit e f = finished_checked f.1 e (walk_made f.0 (f.1 ∷ f.2) f.3).1.0 f.5.finished
 
 module _ (m : Mission) (b : Begun) where
   -- where every plan is taken, a search of plans that are taken is a search of plans
-  pub all_taken : (takes : Mission → List Extension → Bool) → ((es : List Extension) → takes m es ≡ true) → (limit : ℕ) (found : Found Extension) → FindsPlan m b limit found → FindsWhere takes m b limit found
+  pub all_taken : (takes : Mission → List Extension → Type 0) → ((es : List Extension) → takes m es) → (limit : ℕ) (found : Found Extension) → FindsPlan m b limit found → FindsWhere takes m b limit found
   all_taken takes all limit found f = finds_same (Kids m b) (IsFinished m b) (IsTaken takes m b) (λ n. n.path) (λ n e h. record { finished = h; taken = all (joined b.base e) }) (λ n e h. h.finished) (root m b) limit found f
 
-  pub none_left_out : (takes : Mission → List Extension → Bool) → ((es : List Extension) → takes m es ≡ true) → (limit : ℕ) (found : Found Extension) → FindsWhere takes m b limit found → FindsPlan m b limit found
+  pub none_left_out : (takes : Mission → List Extension → Type 0) → ((es : List Extension) → takes m es) → (limit : ℕ) (found : Found Extension) → FindsWhere takes m b limit found → FindsPlan m b limit found
   none_left_out takes all limit found f = finds_same (Kids m b) (IsTaken takes m b) (IsFinished m b) (λ n. n.path) (λ n e h. h.finished) (λ n e h. record { finished = h; taken = all (joined b.base e) }) (root m b) limit found f
+
+  pub none_left_out_at : (takes : Mission → List Extension → Type 0) → ((es : List Extension) → takes m es) → (nodes : ℕ) (found : Found Extension) → FindsWhereAt takes m b nodes found → FindsPlanAt m b nodes found
+  none_left_out_at takes all nodes found f = finds_same_at (Kids m b) (IsTaken takes m b) (IsFinished m b) (λ n. n.path) (λ n e h. h.finished) (λ n e h. record { finished = h; taken = all (joined b.base e) }) (root m b) nodes found f

@@ -1,4 +1,4 @@
-ghost use Rattle.std.specs.Prelude.{◌++◌, ◌≡◌, ◌≤◌, [], true, ℕ, Bool, Contains, List};
+ghost use Rattle.std.specs.Prelude.{◌++◌, ◌≡◌, ◌≤◌, [], ℕ, Contains, List};
 ghost use Rattle.hs_base.specs.Checked.{Checked, joined};
 ghost use Rattle.hs_base.specs.declared.limits.TheConstants.{FREE_POINTS};
 ghost use Rattle.hs_base.specs.declared.mission.Mission.{Mission};
@@ -12,7 +12,7 @@ ghost use Rattle.search_tree.specs.Partial.{begin};
 ghost use Rattle.search_tree.specs.PartialBounds.{HasSchedule};
 ghost use Rattle.search_tree.specs.Parts.{do_parts};
 ghost use Rattle.search_tree.specs.Resolvers.{free_with, parts_of, resolvers};
-ghost use Rattle.search_tree.specs.Search.{FindsPlan, FindsWhere};
+ghost use Rattle.search_tree.specs.Search.{FindsPlan};
 ghost use Rattle.search_tree.specs.Tree.{Found, plan};
 ghost use Rattle.search_tree.specs.declared.flaw.Flaw.{Flaw};
 ghost use Rattle.search_tree.specs.declared.flaw.Resolver.{Resolver};
@@ -29,20 +29,12 @@ pub fn the_parts_of_a_resolver_are_allowed()
     ensures { (m : Mission) (b : Begun) (xs : List Part) (f : Flaw) (r : Resolver) → MayBegin m b → AreAllowed m b (begin m b) xs → Contains (flaws m b (do_parts (begin m b) xs)) f → Contains (resolvers m b (do_parts (begin m b) xs) f) r → AreAllowed m b (begin m b) (xs ++ parts_of (do_parts (begin m b) xs) f r) }
 {}
 
-/// Each plan that a search finds is checked, whichever plans it takes.
+/// Each plan that a search finds is checked.
 pub fn each_plan_that_is_found_is_checked()
-    ensures any { (m : Mission) (b : Begun) (limit : ℕ) (e : Extension) → MayBegin m b → FindsPlan m b limit (plan e) → Checked m (joined b.base e) }
-    ensures taken { (takes : Mission → List Extension → Bool) (m : Mission) (b : Begun) (limit : ℕ) (e : Extension) → MayBegin m b → FindsWhere takes m b limit (plan e) → Checked m (joined b.base e) }
+    ensures { (m : Mission) (b : Begun) (limit : ℕ) (e : Extension) → MayBegin m b → FindsPlan m b limit (plan e) → Checked m (joined b.base e) }
 {}
 
-/// A search of the plans that are taken is a search, where every plan is taken.
-pub fn a_search_that_takes_each_plan_is_a_search()
-    ensures some { (takes : Mission → List Extension → Bool) (m : Mission) (b : Begun) (limit : ℕ) (found : Found Extension) → ((es : List Extension) → takes m es ≡ true) → FindsWhere takes m b limit found → FindsPlan m b limit found }
-    ensures all { (takes : Mission → List Extension → Bool) (m : Mission) (b : Begun) (limit : ℕ) (found : Found Extension) → ((es : List Extension) → takes m es ≡ true) → FindsPlan m b limit found → FindsWhere takes m b limit found }
-{}
-
-/// A search finds one answer, whichever plans it takes.
+/// A search finds one answer.
 pub fn a_search_finds_one_answer()
-    ensures any { (m : Mission) (b : Begun) (limit : ℕ) (f g : Found Extension) → FindsPlan m b limit f → FindsPlan m b limit g → f ≡ g }
-    ensures taken { (takes : Mission → List Extension → Bool) (m : Mission) (b : Begun) (limit : ℕ) (f g : Found Extension) → FindsWhere takes m b limit f → FindsWhere takes m b limit g → f ≡ g }
+    ensures { (m : Mission) (b : Begun) (limit : ℕ) (f g : Found Extension) → FindsPlan m b limit f → FindsPlan m b limit g → f ≡ g }
 {}

@@ -6,6 +6,5 @@ mod laws;
 
 pub use laws::{
     a_partial_plan_without_flaw_gives_a_checked_plan, a_search_finds_one_answer,
-    a_search_that_takes_each_plan_is_a_search, each_plan_that_is_found_is_checked,
-    the_parts_of_a_resolver_are_allowed,
+    each_plan_that_is_found_is_checked, the_parts_of_a_resolver_are_allowed,
 };

@@ -1,5 +1,5 @@
 -- The search tree of a snapshot, and what a search of it finds.
-use Rattle.std.specs.Prelude.{Bool, List, [], true, ℕ, ◌++◌, ◌∷◌, ◌≡◌, ◌⊎◌}
+use Rattle.std.specs.Prelude.{List, [], ℕ, ◌++◌, ◌∷◌, ◌≡◌, ◌⊎◌}
 use Rattle.hs_base.specs.Checked.{joined}
 use Rattle.hs_base.specs.declared.mission.Mission.{Mission}
 use Rattle.hs_base.specs.declared.plan.Extension.{Extension}
@@ -9,7 +9,7 @@ use Rattle.search_tree.specs.Flaws.{flat_map_from, flaws}
 use Rattle.search_tree.specs.Partial.{Partial, begin}
 use Rattle.search_tree.specs.PartialBounds.{HasSchedule}
 use Rattle.search_tree.specs.Resolvers.{resolve, resolvers}
-use Rattle.search_tree.specs.Tree.{Finds, Found}
+use Rattle.search_tree.specs.Tree.{Finds, FindsAt, Found}
 
 -- a partial plan, with the numbers of the children that lead to it from the root
 pub record Node : Type 0 where
@@ -37,15 +37,22 @@ pub record IsFinished (m : Mission) (b : Begun) (n : Node) (e : Extension) : Typ
   pub flawless : flaws m b n.plan ≡ []
   pub is : e ≡ extension m b n.plan
 
--- and the plan with it is taken
-pub record IsTaken (takes : Mission → List Extension → Bool) (m : Mission) (b : Begun) (n : Node) (e : Extension) : Type 0 where
+-- and the plan with it is taken: the claim holds of it
+pub record IsTaken (takes : Mission → List Extension → Type 0) (m : Mission) (b : Begun) (n : Node) (e : Extension) : Type 0 where
   pub finished : IsFinished m b n e
-  pub taken : takes m (joined b.base e) ≡ true
+  pub taken : takes m (joined b.base e)
 
 -- what a search with that budget of nodes finds, where any plan is taken
 abbrev pub FindsPlan : Mission → Begun → ℕ → Found Extension → Type 0
 FindsPlan m b limit found = Finds (Kids m b) (IsFinished m b) (λ n. n.path) (root m b) limit found
 
+-- and so many nodes lead to it
+abbrev pub FindsPlanAt : Mission → Begun → ℕ → Found Extension → Type 0
+FindsPlanAt m b nodes found = FindsAt (Kids m b) (IsFinished m b) (λ n. n.path) (root m b) nodes found
+
 -- the same of plans that are taken
-abbrev pub FindsWhere : (Mission → List Extension → Bool) → Mission → Begun → ℕ → Found Extension → Type 0
+abbrev pub FindsWhere : (Mission → List Extension → Type 0) → Mission → Begun → ℕ → Found Extension → Type 0
 FindsWhere takes m b limit found = Finds (Kids m b) (IsTaken takes m b) (λ n. n.path) (root m b) limit found
+
+abbrev pub FindsWhereAt : (Mission → List Extension → Type 0) → Mission → Begun → ℕ → Found Extension → Type 0
+FindsWhereAt takes m b nodes found = FindsAt (Kids m b) (IsTaken takes m b) (λ n. n.path) (root m b) nodes found

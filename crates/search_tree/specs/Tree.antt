@@ -26,3 +26,7 @@ module _ {N E : Type 0} (Kids : N → List N → Type 0) (Ends : N → E → Typ
   Finds root b (plan e) = (before : List N) × (n : N) × (rest : List N) × Preorder Kids (root ∷ []) before (n ∷ rest) × NoneEnds before × Ends n e × (length before < b)
   Finds root b no_plan = (all : List N) × Preorder Kids (root ∷ []) all [] × NoneEnds all × (length all ≤ b)
   Finds root b (budget p) = (before : List N) × (n : N) × (rest : List N) × Preorder Kids (root ∷ []) before (n ∷ rest) × NoneEnds before × (length before ≡ b) × (p ≡ path n)
+
+  -- so many nodes lead to it: it is found within them, and with fewer the budget ends first
+  abbrev pub FindsAt : N → ℕ → Found E → Type 0
+  FindsAt root nodes found = Finds root nodes found × ((fewer : ℕ) → fewer < nodes → (p : List ℕ) × Finds root fewer (budget p))

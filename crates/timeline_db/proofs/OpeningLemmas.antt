@@ -17,7 +17,7 @@ use Rattle.hs_base.specs.declared.plan.Extension.{Extension}
 use Rattle.hs_base.specs.declared.plan.Time.{Time}
 use Rattle.base_laws.proofs.ListLemmas.{each_split, snoc_induction}
 use Rattle.base_laws.proofs.PointLemmas.{count_is, tokens-push}
-use Rattle.plan_check.proofs.LoopLemmas.{each_from}
+use Rattle.plan_laws.proofs.InsideLemmas.{each_from}
 use Rattle.plan_check.proofs.WithinLemmas.{fixed-push}
 use Rattle.plan_check.specs.Fixing.{AreFlags}
 use Rattle.plan_check.specs.Planned.{Planned}

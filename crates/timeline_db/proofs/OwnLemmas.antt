@@ -14,7 +14,7 @@ use Rattle.hs_base.specs.declared.plan.TokenRef.{TokenRef}
 use Rattle.base_laws.proofs.ListLemmas.{each_at, each_weaker, slice_get-append_left}
 use Rattle.base_laws.proofs.MissionLemmas.{each_filter}
 use Rattle.base_laws.proofs.PointLemmas.{of_variable}
-use Rattle.plan_check.proofs.WithinLemmas.{all_below}
+use Rattle.plan_laws.proofs.InsideLemmas.{tokens_inside}
 use Rattle.search_tree.proofs.CellLemmas.{held_from_at, held_is, length-held, length-map', row_at, slice_get-map_some}
 use Rattle.search_tree.proofs.SoundLemmas.{cell_variable}
 use Rattle.search_tree.specs.Begun.{Begun}
@@ -44,7 +44,7 @@ use Rattle.timeline_db.proofs.ClaimLemmas.{IsNamed, claims_same, supports_named}
 -- a token of a checked plan is of a variable of the mission
 pub variable_there : (m : Mission) (es : List Extension) (t : TokenRef) (k : Kind) → Checked m es → token_at es t ≡ Some k → t.sv.0 < length m.vars
 variable_there m es t k c is =
-    let below = each_at (λ (k : Kind). k.sv.0 < length m.vars) (timeline_of (tokens_of es) t.sv.0) t.place k (each_filter (λ (k : Kind). k.sv.0 < length m.vars) (λ (k : Kind). nat_eq k.sv.0 t.sv.0) (tokens_of es) (all_below m c.mission es c.rules)) is in
+    let below = each_at (λ (k : Kind). k.sv.0 < length m.vars) (timeline_of (tokens_of es) t.sv.0) t.place k (each_filter (λ (k : Kind). k.sv.0 < length m.vars) (λ (k : Kind). nat_eq k.sv.0 t.sv.0) (tokens_of es) (tokens_inside m es c.rules)) is in
     let own = of_variable (tokens_of es) t.sv.0 t.place k is in
     omega arith
 

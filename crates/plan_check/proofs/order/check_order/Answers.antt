@@ -7,7 +7,7 @@ use Rattle.hs_base.specs.Points.{tokens_of}
 use Rattle.hs_base.specs.Checked.{joined, KeepsOrderAt}
 use Rattle.plan_check.specs.Lines.{AreLines}
 use Rattle.plan_check.proofs.LoopLemmas.{each_all}
-use Rattle.plan_check.proofs.WithinLemmas.{all_below}
+use Rattle.plan_laws.proofs.InsideLemmas.{tokens_inside}
 use Rattle.plan_check.proofs.LineLemmas.{lines-push}
 use Rattle.plan_check.proofs.OrderLemmas.{row_few, stand_fault, next_kept, grouped-push, tokens_all, order_missing}
 use Rattle.plan_check.proofs.order.check_order.Goals as goal
@@ -18,7 +18,7 @@ abbrev pub no_kind : Kind
 no_kind = record { sv = record { 0 = 0 }; value = record { 0 = 0 } }
 
 pub of_plan-requires : goal.of_plan-requires
-of_plan-requires c = rw (c.len.ensures, c.as_slice.ensures) (all_below c.args.mission.now c.requires.checked.mission c.args.plan.now.extensions c.requires.checked.rules)
+of_plan-requires c = rw (c.len.ensures, c.as_slice.ensures) (tokens_inside c.args.mission.now c.args.plan.now.extensions c.requires.checked.rules)
 
 pub check_token-requires : goal.check_token-requires
 check_token-requires c =

@@ -1,5 +1,6 @@
 use Rattle.std.proofs.Common.{List, [], ap, refl, subst, sym, ◌+◌, ◌++◌, ◌∙◌, ◌∷◌}
-use Rattle.plan_search.proofs.SearchLemmas.{finds_plan, reached_checked, searched_inner, searched_leaf}
+use Rattle.plan_search.proofs.AnswerLemmas.{whole_plan}
+use Rattle.plan_search.proofs.SearchLemmas.{reached_checked, searched_inner, searched_leaf}
 use Rattle.plan_search.specs.Searched.{IsSearched, path_to}
 use Rattle.plan_search.specs.Visits.{IsVisited}
 use Rattle.plan_search.specs.declared.frames.Frame.{Frame}
@@ -21,11 +22,11 @@ returns-in_ok-push-in-Inner-clause-more g c =
     (searched_inner d.mission d.begun (g.F.Filter.test c.args.filter.now) d.parts fs (record { path = path_to fs; plan = partial_of d }) c.in-Inner.frame c.args.taken c.requires.reached c.requires.ahead refl v.head v.listed v.next v.mark)
 
 pub returns-in-Plan-clause-found : goal.returns-in-Plan-clause-found
-returns-in-Plan-clause-found g c = λ limit below.
+returns-in-Plan-clause-found g c =
     let d = c.args.db.now in
     let fs = c.args.frames.now in
     let v = subst (IsVisited (g.F.Filter.test c.args.filter.now) d) c.in-Plan.is c.in_ok-frame.ensures.visited in
-    finds_plan d.mission d.begun (g.F.Filter.test c.args.filter.now) d.parts fs (record { path = path_to fs; plan = partial_of d }) c.in-Plan.extension c.args.taken limit c.requires.reached c.requires.ahead v.flawless v.is v.taken below
+    whole_plan (g.F.Filter.test c.args.filter.now) d fs c.in-Plan.plan c.args.taken c.requires.reached c.requires.ahead v.0 v.1
 
 pub returns-in-Leaf-clause-more : goal.returns-in-Leaf-clause-more
 returns-in-Leaf-clause-more g c =
@@ -33,4 +34,4 @@ returns-in-Leaf-clause-more g c =
     let fs = c.args.frames.now in
     let v = subst (IsVisited (g.F.Filter.test c.args.filter.now) d) c.in-Leaf.is c.in_ok-frame.ensures.visited in
     subst (λ (l : List Frame). IsSearched (g.F.Filter.test c.args.filter.now) d.mission d.begun d.parts l (c.args.taken + 1)) (sym c.visit.ensures.frames)
-    (searched_leaf d.mission d.begun (g.F.Filter.test c.args.filter.now) d.parts fs (record { path = path_to fs; plan = partial_of d }) c.args.taken c.requires.reached c.requires.ahead v.flawless v.taken)
+    (searched_leaf d.mission d.begun (g.F.Filter.test c.args.filter.now) d.parts fs (record { path = path_to fs; plan = partial_of d }) c.args.taken c.requires.reached c.requires.ahead v.0 v.1)

@@ -1,13 +1,13 @@
-use Rattle.std.proofs.Common.{List, Option, [], ap, arith, subst, sym, ℕ, ◌++◌, ◌<◌, ◌^◌, ◌∙◌, ◌∷◌}
+use Rattle.std.proofs.Common.{List, Option, [], ap, arith, subst, sym, ℕ, ◌+◌, ◌++◌, ◌<◌, ◌^◌, ◌≡◌, ◌∙◌, ◌∷◌}
 use Rattle.std.specs.List.{AllByRecursion}
 use Rattle.std.specs.Prelude.{IfSome}
 use Rattle.hs_base.specs.declared.mission.Mission.{Mission}
-use Rattle.hs_base.specs.declared.plan.Extension.{Extension}
+use Rattle.plan_check.specs.Planned.{Planned}
 use Rattle.search_tree.specs.Begun.{Begun}
-use Rattle.search_tree.specs.Search.{FindsWhere}
-use Rattle.search_tree.specs.Tree.{plan}
-use Rattle.plan_search.proofs.SearchLemmas.{searched_back}
-use Rattle.plan_search.proofs.TurnLemmas.{below_budget, ends_here, path_fits}
+use Rattle.plan_search.proofs.AnswerLemmas.{budget_found, none_found, plan_found}
+use Rattle.plan_search.proofs.SearchLemmas.{finds_none, searched_back}
+use Rattle.plan_search.proofs.TurnLemmas.{below_budget, ends_here, if_none, path_fits}
+use Rattle.plan_search.specs.Answered.{IsPlanAt}
 use Rattle.plan_search.specs.Searched.{IsSearched, path_to}
 use Rattle.plan_search.specs.declared.frames.Frame.{Frame}
 use Rattle.plan_search.proofs.search_loop.search_below.Goals as goal
@@ -23,19 +23,37 @@ path_of-requires-clause-child g c =
     let few = (path_fits (g.F.Filter.test c.args.filter.now) c.nodes.db c.args.db.now.mission c.args.db.now.begun c.nodes.frames c.pop.new.self c.in-Some.frame c.nodes.taken i.mission i.begun c.was_allowed.ensures.begins c.was_allowed.ensures.allowed i.searched c.in-Some.ensures.some).1 in
     omega (arith, few, c.if-frame-len.true, c.len.ensures)
 
-pub returns-then-taken-budget-clause-found : goal.returns-then-taken-budget-clause-found
-returns-then-taken-budget-clause-found g c =
-    ends_here (g.F.Filter.test c.args.filter.now) c.args.db.now.mission c.args.db.now.begun c.nodes.db.parts c.nodes.frames c.pop.new.self c.in-Some.frame c.in_ok-path_of.field-0 c.nodes.taken c.args.budget c.nodes.invariant.searched c.in-Some.ensures.some (omega (arith, c.if-frame-len.true, c.len.ensures)) (c.in_ok-path_of.ensures ∙ ap (λ (l : List Frame). path_to l ++ c.in-Some.frame.next ∷ []) c.as_slice.ensures) c.if-taken-budget.true
-
-pub returns-in-Some-child-clause-found : goal.returns-in-Some-child-clause-found
-returns-in-Some-child-clause-found g c =
+pub returns-then-taken-budget-clause-unplanned : goal.returns-then-taken-budget-clause-unplanned
+returns-then-taken-budget-clause-unplanned g c =
     let i = c.nodes.invariant in
-    let e = c.in-Some-child.extension in
-    let all = subst (λ (o : Option Extension). IfSome o (λ (e : Extension). (limit : ℕ) → c.nodes.taken < limit → FindsWhere (g.F.Filter.test c.nodes.filter) c.nodes.db.mission c.nodes.db.begun limit (plan e))) c.in-Some-child.is c.in_ok-child.ensures.found in
-    let one = all c.args.budget (below_budget c.nodes.taken c.args.budget i.within c.if-taken-budget.false) in
-    subst (λ f. FindsWhere (g.F.Filter.test f) c.args.db.now.mission c.args.db.now.begun c.args.budget (plan e)) i.same
-    (subst (λ (m : Mission). FindsWhere (g.F.Filter.test c.nodes.filter) m c.args.db.now.begun c.args.budget (plan e)) i.mission
-    (subst (λ (b : Begun). FindsWhere (g.F.Filter.test c.nodes.filter) c.nodes.db.mission b c.args.budget (plan e)) i.begun one))
+    let m = c.args.db.now.mission in
+    let b = c.args.db.now.begun in
+    let takes = g.F.Filter.test c.args.filter.now in
+    budget_found takes m b c.nodes.taken c.args.budget c.args.steps.now (c.nodes.steps + 1) c.in_ok-path_of.field-0 c.if-taken-budget.true i.steps
+    (ends_here takes m b c.nodes.db.parts c.nodes.frames c.pop.new.self c.in-Some.frame c.in_ok-path_of.field-0 c.nodes.taken i.searched c.in-Some.ensures.some (omega (arith, c.if-frame-len.true, c.len.ensures)) (c.in_ok-path_of.ensures ∙ ap (λ (l : List Frame). path_to l ++ c.in-Some.frame.next ∷ []) c.as_slice.ensures))
+
+pub returns-in-Some-child-clause-planned : goal.returns-in-Some-child-clause-planned
+returns-in-Some-child-clause-planned g c =
+    let i = c.nodes.invariant in
+    let m = c.args.db.now.mission in
+    let b = c.args.db.now.begun in
+    let takes = g.F.Filter.test c.args.filter.now in
+    let p = c.in-Some-child.plan in
+    let one = subst (λ (o : Option Planned). IfSome o (IsPlanAt (g.F.Filter.test c.nodes.filter) c.nodes.db.mission c.nodes.db.begun (c.nodes.taken + 1))) c.in-Some-child.is c.in_ok-child.ensures.found in
+    let here = subst (λ f. IsPlanAt (g.F.Filter.test f) m b (c.nodes.taken + 1) p) i.same
+        (subst (λ (x : Mission). IsPlanAt (g.F.Filter.test c.nodes.filter) x b (c.nodes.taken + 1) p) i.mission
+        (subst (λ (x : Begun). IsPlanAt (g.F.Filter.test c.nodes.filter) c.nodes.db.mission x (c.nodes.taken + 1) p) i.begun one)) in
+    let below = below_budget c.nodes.taken c.args.budget i.within c.if-taken-budget.false in
+    plan_found takes m b (c.nodes.taken + 1) c.args.budget c.args.steps.now (c.tick.new.self + 1) p (omega (arith, below)) (omega (arith, c.tick.ensures, i.steps)) here
+
+pub returns-clause-unplanned : goal.returns-clause-unplanned
+returns-clause-unplanned g c =
+    let i = c.nodes.invariant in
+    let m = c.args.db.now.mission in
+    let b = c.args.db.now.begun in
+    let takes = g.F.Filter.test c.args.filter.now in
+    let none = if_none c.pop.result (c.nodes.frames ≡ []) c.in_default.not-Some c.pop.ensures.none in
+    none_found takes m b c.nodes.taken c.args.budget c.args.steps.now (c.nodes.steps + 1) i.within i.steps (finds_none m b takes c.nodes.db.parts c.nodes.frames c.nodes.taken i.searched none)
 
 pub nodes-preserved : goal.nodes-preserved
 nodes-preserved g c =

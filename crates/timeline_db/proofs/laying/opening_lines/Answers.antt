@@ -7,7 +7,8 @@ use Rattle.hs_base.specs.Checked.{Checked}
 use Rattle.hs_base.specs.Points.{count, points_of, tokens_of}
 use Rattle.hs_base.specs.declared.mission.Kind.{Kind}
 use Rattle.hs_base.specs.declared.plan.Extension.{Extension}
-use Rattle.plan_check.proofs.WithinLemmas.{all_below, few_tokens}
+use Rattle.plan_check.proofs.WithinLemmas.{few_tokens}
+use Rattle.plan_laws.proofs.InsideLemmas.{tokens_inside}
 use Rattle.timeline_db.proofs.TotalLemmas.{timeline_few}
 use Rattle.timeline_db.proofs.LayingLemmas.{laid_given, write_back}
 use Rattle.timeline_db.proofs.OutsetLemmas.{outset_first, outset_later}
@@ -24,7 +25,7 @@ returns-then-is_empty c = λ b e.
 
 pub lines_of-requires-clause-kinds : goal.lines_of-requires-clause-kinds
 lines_of-requires-clause-kinds c =
-    subst (λ (n : ℕ). AllByRecursion (λ (k : Kind). k.sv.0 < n) (tokens_of c.args.extensions.now)) (sym c.len.ensures) (all_below c.args.mission.now c.requires.checked.mission c.args.extensions.now c.requires.checked.rules)
+    subst (λ (n : ℕ). AllByRecursion (λ (k : Kind). k.sv.0 < n) (tokens_of c.args.extensions.now)) (sym c.len.ensures) (tokens_inside c.args.mission.now c.args.extensions.now c.requires.checked.rules)
 
 pub note_all-requires-clause-given : goal.note_all-requires-clause-given
 note_all-requires-clause-given c = λ v s is.
