@@ -9,4 +9,3 @@ mod words;
 pub use request::{Command, Request};
 pub use unasked::Unasked;
 pub use words::words_of;
-

@@ -1,14 +1,13 @@
 -- What each command makes of a good input.
-use Rattle.std.proofs.Common.{◌≡◌, ◌≢◌, ℕ, List, [], length, refl, sym, ap, ◌∙◌, subst, arith, inl, inr}
+use Rattle.std.proofs.Common.{◌≡◌, ℕ, List, [], length, refl, ap, ◌∙◌, subst, arith, inl, inr}
 use Rattle.hs_texts.specs.declared.ast.Ast.{Ast}
 use Rattle.hs_base.specs.declared.mission.Mission.{Mission}
 use Rattle.hs_base.specs.declared.plan.Extension.{Extension}
 use Rattle.hs_texts.specs.CanonicalText.{canonical}
 use Rattle.hs_base.specs.Checked.{Checked}
 use Rattle.hs_texts.specs.ClosingText.{checked_line}
-use Rattle.hs_machine.specs.State.{plan_of}
 use Rattle.hs_texts.specs.MissionSpelling.{IsMissionRefusal, IsRefusalOf}
-use Rattle.run_laws.proofs.CheckedLemmas.{run_checked}
+use Rattle.flight_laws.proofs.FlightLemmas.{flight_checked}
 use Rattle.text_laws.proofs.RefusalLemmas.{spelled_one, spelled_or_refused}
 use Rattle.domain_check.proofs.RuleLemmas.{not_meant}
 use Rattle.commands.specs.Inputs.{IsGiven, IsRefused}
@@ -88,9 +87,7 @@ run_flown m es NoMemory text p one c r = absurd r
 
 -- a plan that was flown is checked
 flown_checked : (m : Mission) (es : List Extension) (text : List ℕ) → length es ≡ 1 → IsFlown m es text → Checked m es
-flown_checked m es text one f =
-    let some : plan_of f.history ≢ [] = λ (e : plan_of f.history ≡ []). absurd (omega (arith, one, ap length (sym f.flight.plan ∙ e))) in
-    subst (Checked m) f.flight.plan (run_checked m f.history f.flight.run some)
+flown_checked m es text one f = flight_checked m es f.history f.flight (λ (e : es ≡ []). omega (arith, one, ap length e))
 
 run_faulty : (m : Mission) (es : List Extension) (status : Status) (text : List ℕ) → IsPlain m → length es ≡ 1 → (Checked m es → ⊥) → Runs m es status text → (status ≡ PlanRefused) × IsFaulty m es text
 run_faulty m es Done text p one breaks r = absurd (breaks (flown_checked m es text one r))

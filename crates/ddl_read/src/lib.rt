@@ -23,4 +23,3 @@ pub use pieces::Pieces;
 pub use reader::Reader;
 pub use reading::{read, read_front};
 pub use unread::Unread;
-

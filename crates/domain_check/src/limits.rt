@@ -9,7 +9,10 @@ ghost use Rattle.hs_texts.specs.MissionRefusals.{from_one_to as from_one_to_spec
 ghost use Rattle.domain_check.specs.Checking.{Tells};
 ghost use Rattle.domain_check.specs.Tables.{is_short};
 
-use hs_base::{ANSWER_CLAUSES, ANSWERS, CHOICES, GOALS, HORIZONS, LAST_HORIZON, NEEDS, SCRIPT_STEPS, VALUES, VARIABLES};
+use hs_base::{
+    ANSWER_CLAUSES, ANSWERS, CHOICES, GOALS, HORIZONS, LAST_HORIZON, NEEDS, SCRIPT_STEPS, VALUES,
+    VARIABLES,
+};
 use hs_texts::{Ast, AstHorizon, AstNeed, AstValue, AstVar, Refusal};
 
 /// Whether there is one, and not more than the most.

@@ -9,7 +9,9 @@ ghost use Rattle.domain_check.specs.Tables.{names_in, names_of_uses, kinds_of_ch
 use crate::names::Names;
 use crate::tables::Tables;
 use hs_base::{Copies, Name};
-use hs_texts::{Ast, AstChoice, AstGoal, AstHorizon, AstKind, AstNeed, AstValue, AstVar, Refusal, Use};
+use hs_texts::{
+    Ast, AstChoice, AstGoal, AstHorizon, AstKind, AstNeed, AstValue, AstVar, Refusal, Use,
+};
 use std::alloc::Global;
 
 fn check_name(alloc: Global, known: &Names, name: &Name) -> Result<(), Refusal>

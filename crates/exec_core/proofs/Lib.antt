@@ -1,7 +1,6 @@
 pub mod RoomLemmas
 pub mod KeptLemmas
 pub mod NextLemmas
-pub mod DecideLemmas
 pub mod LawfulLemmas
 pub mod PushLemmas
 pub mod HandedLemmas

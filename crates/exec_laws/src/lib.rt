@@ -5,5 +5,7 @@
 mod deciding;
 mod running;
 
-pub use deciding::{a_dispatch_decides_as_the_machine, like_moments_have_the_same_replies, what_is_allowed_fits};
+pub use deciding::{
+    a_dispatch_decides_as_the_machine, like_moments_have_the_same_replies, what_is_allowed_fits,
+};
 pub use running::{a_running_state_goes_on, an_ended_run_leaves_last_ends};

@@ -11,4 +11,3 @@ pub use laws::{
     networks_are_told,
 };
 pub use top::ground;
-

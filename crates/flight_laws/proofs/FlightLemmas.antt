@@ -1,5 +1,5 @@
 -- A flight goes on, stays eager, and ends by firing its horizon's point.
-use Rattle.std.proofs.Common.{◌≡◌, ℕ, true, false, List, [], ◌∷◌, ◌++◌, Option, Some, None, refl, sym, ap, ◌∙◌, subst}
+use Rattle.std.proofs.Common.{◌≡◌, ◌≢◌, ℕ, true, false, List, [], ◌∷◌, ◌++◌, Option, Some, None, refl, sym, ap, ◌∙◌, subst}
 use Rattle.hs_base.specs.declared.ids.PointId.{PointId}
 use Rattle.hs_base.specs.declared.mission.Mission.{Mission}
 use Rattle.hs_base.specs.declared.plan.Extension.{Extension}
@@ -8,16 +8,22 @@ use Rattle.hs_machine.specs.declared.history.Deed.{Deed}
 use Rattle.hs_machine.specs.declared.history.Deed.TheVariants.{Tick, Fire, Report, Handover, Stale as StaleDeed, Late, Early, Broken}
 use Rattle.std.specs.Prelude.{option_to_list}
 use Rattle.hs_base.specs.Missions.{IsMission}
+use Rattle.hs_base.specs.Checked.{Checked}
 use Rattle.hs_machine.specs.Run.{Run}
-use Rattle.hs_machine.specs.State.{is_tick, is_failure, hands_over}
+use Rattle.hs_machine.specs.State.{plan_of, is_tick, is_failure, hands_over}
 use Rattle.hs_machine.specs.Eager.{NoneMayFire}
 use Rattle.hs_machine.specs.Machine.{Event, tick, fire, report, broken, handover, done, stale, base_of, IsNext, IsLeftBy, IsAdded, Turn}
 use Rattle.base_laws.proofs.ListLemmas.{EachAfter-more}
 use Rattle.run_laws.proofs.StateLemmas.{plan_kept}
 use Rattle.run_laws.proofs.RunLemmas.{event_reply, offered_base}
+use Rattle.run_laws.proofs.CheckedLemmas.{run_checked}
 use Rattle.exec_laws.proofs.StepLemmas.{failed_more}
 use Rattle.flight_laws.specs.Flights.{BeginsByHandover, IsFlight}
 use Rattle.flight_laws.proofs.TurnLemmas.{with_deed, turn_run, turn_fired, turn_ticked}
+
+-- the plan of a flight is checked
+pub flight_checked : (m : Mission) (es : List Extension) (h : List Entry) → IsFlight m es h → es ≢ [] → Checked m es
+flight_checked m es h f some = subst (Checked m) f.plan (run_checked m h f.run (λ (e : plan_of h ≡ []). some (sym f.plan ∙ e)))
 
 -- a further entry keeps the beginning
 begins_more : (h : List Entry) (e : Entry) → BeginsByHandover h → BeginsByHandover (h ++ e ∷ [])

@@ -3,4 +3,6 @@
 
 mod flights;
 
-pub use flights::{a_flight_begins_with_its_plan, a_flight_ends_at_its_horizon};
+pub use flights::{
+    a_flight_begins_with_its_plan, a_flight_ends_at_its_horizon, a_flight_is_of_a_checked_plan,
+};

@@ -1,5 +1,5 @@
 -- A checked plan at time 0, where nothing but Z is executed.
-use Rattle.std.proofs.Common.{◌≡◌, ℕ, zero, suc, ◌<◌, ◌≤◌, Bool, false, List, [], length, get_or, Option, Some, None, refl, sym, ap, ◌∙◌, subst, arith, pos, inl, inr, map}
+use Rattle.std.proofs.Common.{◌≡◌, ℕ, zero, suc, ◌<◌, ◌≤◌, Bool, false, List, [], length, get_or, Some, None, refl, sym, ap, ◌∙◌, subst, arith, pos, inl, inr, map}
 use Rattle.std.proofs.lemmas.Int.{ints}
 use Rattle.std.proofs.Math.Path.{fun_ext}
 use Rattle.std.proofs.lemmas.Option.{slice_get_past}

@@ -1,11 +1,10 @@
 -- What contracts see of an offer, and the dispatch of a plan.
-use Rattle.std.specs.Prelude.{◌≡◌, ℕ, ◌-◌, ℤ, pos, List, [], ◌∷◌, ◌++◌, length, take, Option, Some, None}
+use Rattle.std.specs.Prelude.{◌≡◌, ◌-◌, pos, List, [], ◌∷◌, ◌++◌, length, take, Option, Some, None}
 use Rattle.hs_base.specs.declared.plan.Extension.{Extension}
 use Rattle.hs_base.specs.declared.net.Net.{Net}
-use Rattle.hs_base.specs.Points.{count, is_observed as ends_by_device}
+use Rattle.hs_base.specs.Points.{count}
 use Rattle.hs_base.specs.Bounds.{bounds_of}
 use Rattle.hs_base.specs.Checked.{Checked}
-use Rattle.hs_base.specs.Reduced.{IsReducedOf}
 use Rattle.hs_base.specs.Moments.{Moment, moment_in}
 use Rattle.hs_machine.specs.State.{executed}
 use Rattle.stn_distance.specs.Distances.{Distances, IsDistOf}

@@ -7,17 +7,18 @@ use crate::Offer;
 use dispatcher::Dispatch;
 use edge_filter::Reformed;
 use hs_base::{Copies, Extension, List, Memory, Mission, Plan, PointId, Time};
+use plan_index::PlanIndex;
 use std::alloc::Global;
-use token_net::{observed, points};
 
 /// Which of the plan's points are observed.
 fn observed_of(alloc: Global, mission: &Mission, plan: &Plan) -> Result<List<bool>, Memory>
     requires { count plan.now.extensions < 2 ^ 32 }
     ensures { IfOk result (λ flags. flags ≡ map (λ x. is_observed mission.now plan.now.extensions x) (numbers_from 0 (count plan.now.extensions))) }
 {
+    let index = PlanIndex::of(alloc, plan.extensions.as_slice())?;
     let mut flags = List::new(alloc);
-    for x in 0..points(plan) {
-        flags.push(observed(mission, plan, PointId(x)))?;
+    for x in 0..index.points() {
+        flags.push(index.is_observed(mission, PointId(x as u32)))?;
     }
     Ok(flags)
 }

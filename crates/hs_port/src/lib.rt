@@ -36,4 +36,3 @@ pub use std_source::StdSource;
 pub use sure_clock::SureClock;
 pub use sure_sink::SureSink;
 pub use sure_source::SureSource;
-

@@ -1,22 +1,22 @@
 -- What entries say of a plan.
-use Rattle.std.proofs.Common.{◌≡◌, ℕ, zero, suc, ◌+◌, ◌-◌, ◌<◌, ◌≤◌, Bool, true, false, ◌||◌, nat_eq, List, [], ◌∷◌, ◌++◌, length, map, Some, None, refl, sym, ap, ◌∙◌, subst, arith, inl, inr, append-nil, length-append}
-use Rattle.std.proofs.lemmas.Bool.{cases_lt}
+use Rattle.std.proofs.Common.{◌≡◌, ℕ, zero, suc, ◌+◌, ◌-◌, ◌<◌, ◌≤◌, Bool, true, false, ◌||◌, nat_eq, List, [], ◌∷◌, ◌++◌, length, map, Some, None, refl, sym, ap, ◌∙◌, subst, arith, append-nil, length-append}
 use Rattle.std.proofs.lemmas.Grind.{flat_map-append}
 use Rattle.std.proofs.lemmas.List.{length-map}
 use Rattle.std.specs.Prelude.{slice_get}
 use Rattle.hs_base.specs.declared.ids.PointId.{PointId}
 use Rattle.hs_base.specs.declared.plan.Time.{Time}
+use Rattle.hs_base.specs.declared.plan.TokenRef.{TokenRef}
 use Rattle.hs_base.specs.declared.plan.Extension.{Extension}
-use Rattle.hs_base.specs.Points.{horizon, ending, place_of, count, points_of, tokens_of}
+use Rattle.hs_base.specs.Points.{horizon, ending, place_of, count, points_of, tokens_of, start, start_at as starts_at}
 use Rattle.hs_base.specs.Bounds.{is_fixed}
 use Rattle.hs_base.specs.Checked.{fixed_of, free_points}
 use Rattle.base_laws.proofs.PointLemmas.{AreNamed, named as named_points, tokens-push, points-push, count_is}
 use Rattle.plan_index.specs.declared.placed.PlacedToken.{PlacedToken}
 use Rattle.plan_index.specs.declared.entries.Entries.{Entries}
-use Rattle.plan_index.specs.Contents.{Contents, contents_of, extended}
+use Rattle.plan_index.specs.Contents.{Contents, contents_of, extended, start_at, start_of}
 use Rattle.plan_index.specs.Lines.{row_of}
 use Rattle.plan_index.specs.Named.{named, has_time}
-use Rattle.plan_index.specs.Entered.{contents, IsIndex}
+use Rattle.plan_index.specs.Entered.{IsIndex}
 use Rattle.plan_index.proofs.GrowthLemmas.{row_many}
 
 -- contents are told apart by their parts
@@ -29,10 +29,10 @@ same_contents c d h p t f =
 pub contents_push : (es : List Extension) (e : Extension) → contents_of (es ++ e ∷ []) ≡ extended (contents_of es) e
 contents_push es e =
     same_contents (contents_of (es ++ e ∷ [])) (extended (contents_of es) e)
-      (length-append es (e ∷ []))
-      (points-push es e)
-      (tokens-push es e)
-      (flat_map-append (λ (x : Extension). x.fixed) es (e ∷ []) ∙ ap (λ l. fixed_of es ++ l) (append-nil e.fixed))
+    (length-append es (e ∷ []))
+    (points-push es e)
+    (tokens-push es e)
+    (flat_map-append (λ (x : Extension). x.fixed) es (e ∷ []) ∙ ap (λ l. fixed_of es ++ l) (append-nil e.fixed))
 
 -- Z, a point for each extension, and one for each token
 pub points_counted : (s : Entries) → IsIndex s → length s.names.items ≡ 1 + length s.horizons.items + length s.tokens.items
@@ -91,3 +91,11 @@ has_time-of (e ∷ es) x = has_time-append e.fixed (fixed_of es) x ∙ ap (λ b.
 -- the points less those with a time are the free ones
 pub free_are : (es : List Extension) → count es - length (fixed_of es) ≡ free_points es
 free_are es = ap (λ n. n - length (fixed_of es)) (count_is es)
+
+-- the start of a token among the points of a plan
+pub start_is : (c : Contents) (es : List Extension) (t : TokenRef) → c ≡ contents_of es → start_of c.points t ≡ start es t
+start_is c es t is = ap (λ (x : Contents). start_of x.points t) is ∙ by_place t.sv.0 t.place
+  where
+    by_place : (v i : ℕ) → start_at (points_of es) v i ≡ starts_at es v i
+    by_place v zero = refl
+    by_place v (suc i) = refl

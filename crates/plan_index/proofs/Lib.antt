@@ -1,3 +1,4 @@
 pub mod LineLemmas
 pub mod GrowthLemmas
 pub mod IndexLemmas
+pub mod CountLemmas

@@ -1,5 +1,5 @@
 -- What an index knows of a plan.
-use Rattle.std.specs.Prelude.{ℕ, zero, suc, ◌+◌, List, [], ◌∷◌, ◌++◌, length, map}
+use Rattle.std.specs.Prelude.{ℕ, zero, suc, ◌+◌, List, ◌∷◌, ◌++◌, length, map}
 use Rattle.hs_base.specs.declared.mission.Kind.{Kind}
 use Rattle.hs_base.specs.declared.plan.Time.{Time}
 use Rattle.hs_base.specs.declared.plan.TokenRef.{TokenRef}

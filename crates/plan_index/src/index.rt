@@ -1,6 +1,6 @@
 ghost use Rattle.std.specs.Prelude.{◌≡◌, ℕ, ◌+◌, ◌-◌, ◌^◌, ◌<◌, List, [], ◌∷◌, ◌++◌, length, map, slice_get, option_map, Some, IfOk, OnOk, OnErr};
 ghost use Rattle.hs_base.specs.declared.plan.Extension.{Extension};
-ghost use Rattle.hs_base.specs.Points.{horizon, ending, place_of, timeline_of, is_observed, count, start, stop, hor, token_at};
+ghost use Rattle.hs_base.specs.Points.{horizon, ending, place_of, timeline_of, is_observed, start, count};
 ghost use Rattle.hs_base.specs.Bounds.{is_fixed};
 ghost use Rattle.hs_base.specs.Checked.{free_points};
 ghost use Rattle.plan_index.specs.Contents.{contents_of, extended, end_of, start_of};
@@ -41,6 +41,18 @@ impl PlanIndex {
     {
         let entries = Entries::new(alloc)?;
         Ok(PlanIndex { alloc, entries })
+    }
+
+    /// The index of the plan with these extensions.
+    pub fn of(alloc: Global, extensions: &[Extension]) -> Result<PlanIndex, Memory>
+        requires { count extensions.now < 2 ^ 32 }
+        ensures { IfOk result (λ index. index ≡ contents_of extensions.now) }
+    {
+        let mut index = PlanIndex::new(alloc)?;
+        for extension in extensions {
+            index.extend(extension)?;
+        }
+        Ok(index)
     }
 
     /// Takes in a further extension. After want of memory the index is unchanged.
@@ -121,7 +133,8 @@ impl PlanIndex {
 
     /// The point that starts a token: Z, or the end of the token before it.
     pub fn start(&self, token: TokenRef) -> PointId
-        ensures { result.0 ≡ start_of self.now.points token }
+        ensures start { result.0 ≡ start_of self.now.points token }
+        ensures plan { (es : List Extension) → self.now ≡ contents_of es → result.0 ≡ start es token }
     {
         if token.place == 0 {
             return PointId(0);
@@ -163,7 +176,10 @@ impl PlanIndex {
     pub fn free_points(&self) -> usize
         ensures { (es : List Extension) → self.now ≡ contents_of es → result ≡ free_points es }
     {
-        self.entries.names.len().saturating_sub(self.entries.fixed.len())
+        self.entries
+            .names
+            .len()
+            .saturating_sub(self.entries.fixed.len())
     }
 
     /// Whether the point is observed: a device ends its token, and tells it.

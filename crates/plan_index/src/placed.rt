@@ -33,7 +33,12 @@ fn grow_lines(alloc: Global, lines: &mut Vec<Timeline>, many: usize) -> Result<(
 
 #[tactic(auto, using(crate::proofs::LineLemmas::row_written))]
 /// Makes room for so many tokens on the timeline of a variable.
-fn reserve_line(alloc: Global, lines: &mut Vec<Timeline>, sv: SvId, more: usize) -> Result<(), Memory>
+fn reserve_line(
+    alloc: Global,
+    lines: &mut Vec<Timeline>,
+    sv: SvId,
+    more: usize,
+) -> Result<(), Memory>
     ensures kept { (v : ℕ) → row_of lines.new.items v ≡ row_of lines.old.items v }
     ensures room { (v n : ℕ) → HasRoom lines.old.items v n → HasRoom lines.new.items v n }
     ensures there { OnOk result (HasRoom lines.new.items sv.0 more) }

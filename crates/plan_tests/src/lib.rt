@@ -4,6 +4,8 @@
 #[cfg(test)]
 mod checks;
 #[cfg(test)]
+mod indexes;
+#[cfg(test)]
 mod partial_plans;
 #[cfg(test)]
 mod points;

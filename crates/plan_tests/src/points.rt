@@ -1,11 +1,11 @@
 ghost use Rattle.std.specs.Prelude.{◌≡◌, IfOk};
 ghost use Rattle.base_laws.specs.Samples.{smallest_plan};
 
-use hs_base::{Bound, LAST, List, Memory, Plan, PointId, SvId, TokenRef};
+use hs_base::{Bound, LAST, List, Memory, Plan, PointId};
 use sample_missions::{smallest, smallest_extension};
 use std::alloc::Global;
 use std::test::Fail;
-use token_net::{bounds, end_of, horizon_point, observed, points, start_of};
+use token_net::{bounds, horizon_point, points};
 
 /// The smallest mission's plan.
 fn plan(alloc: Global) -> Result<Plan, Memory>
@@ -19,17 +19,9 @@ fn plan(alloc: Global) -> Result<Plan, Memory>
 #[test]
 fn numbers_its_points(rt: HostRuntime) -> Result<(), Fail> {
     let alloc = rt.alloc();
-    let mission = smallest(alloc)?;
     let plan = plan(alloc)?;
-    let last = TokenRef {
-        sv: SvId(0),
-        place: 1,
-    };
     assert_eq!(rt; points(&plan), 4);
-    assert_eq!(rt; start_of(&plan, last), PointId(2));
-    assert_eq!(rt; end_of(&plan, last), PointId(3));
     assert_eq!(rt; horizon_point(&plan, 1), PointId(1));
-    assert!(rt; !observed(&mission, &plan, PointId(2)));
     Ok(())
 }
 

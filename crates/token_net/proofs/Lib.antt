@@ -1,5 +1,4 @@
 pub mod NumberLemmas
 pub mod ItemLemmas
-pub mod TableLemmas
 pub mod GrowthLemmas
-pub mod RowLemmas
+pub mod ExtensionLemmas

@@ -1,3 +1,3 @@
-pub mod Ends
-pub mod Rows
 pub mod Conditions
+pub mod Items
+pub mod Rows

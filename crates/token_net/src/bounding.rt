@@ -1,51 +1,96 @@
-ghost use Rattle.std.specs.Prelude.{◌≡◌, ◌+◌, ◌<◌, ◌≤◌, ◌^◌, ◌++◌, pos, ◌≤ℤ◌, length, All, OnOk, IfOk};
+ghost use Rattle.std.specs.Prelude.{◌≡◌, List, [], ◌∷◌, ◌+◌, ◌<◌, ◌≤◌, ◌^◌, ◌++◌, pos, ◌≤ℤ◌, length, All, OnOk, IfOk};
 ghost use Rattle.hs_base.specs.Points.{count};
 ghost use Rattle.hs_base.specs.Ranges.{whole, InRange};
-ghost use Rattle.hs_base.specs.Bounds.{bounds_of};
+ghost use Rattle.hs_base.specs.declared.plan.Extension.{Extension};
+ghost use Rattle.hs_base.specs.Bounds.{bounds_of, new_bounds};
 ghost use Rattle.hs_base.specs.Missions.{IsMission};
 ghost use Rattle.token_net.specs.Conditions.{IsWithin};
-ghost use Rattle.token_net.specs.Rows.{extension_rows};
+ghost use Rattle.plan_index.specs.Contents.{contents_of};
+ghost use Rattle.token_net.specs.Items.{extension_items, tokens_ended};
 
 use crate::items::{
     add_fixed, add_goals_of, add_horizon, add_lasts, add_lengths, add_points, add_since,
     add_starts, add_supports,
 };
-use crate::numbers::points_of_all;
-use crate::table::Table;
-use hs_base::{Bound, Extension, List, Memory, Mission, Plan, PointId};
+use hs_base::{Bound, Extension, List, Memory, Mission, Plan, PointId, TokenRef};
+use plan_index::{PlanIndex, PointName};
 use std::alloc::Global;
 
-/// Adds the bounds of the extension of that number, whose tokens are the table's newest.
+/// The names of the tokens that end at these points.
+fn ended_at(alloc: Global, names: &[PointName]) -> Result<Vec<TokenRef>, Memory>
+    ensures { IfOk result (λ tokens. tokens.items ≡ tokens_ended names.now) }
+{
+    let mut tokens = Vec::with_capacity(alloc, names.len())?;
+    for name in names {
+        if let PointName::End(token) = name {
+            tokens.push(*token)?;
+        }
+    }
+    Ok(tokens)
+}
+
+/// Adds the bounds of the extension of that number, with its horizon point and its tokens.
 fn add_extension(
     made: &mut List<Bound>,
     mission: &Mission,
-    table: &Table,
+    index: &PlanIndex,
     number: usize,
+    mark: PointId,
+    new: &[TokenRef],
     extension: &Extension,
 ) -> Result<(), Memory>
     requires mission { IsMission mission.now }
-    requires newest { length table.now.newest.items + 1 ≤ table.now.points }
-    requires flags { table.now.points ≤ length table.now.fixed.items }
+    requires small { length index.now.points < 2 ^ 32 }
+    requires mark { mark.0 < length index.now.points }
     requires times { All (λ t. pos 0 ≤ℤ t.at) extension.now.fixed }
     requires since { InRange whole extension.now.since }
-    ensures { OnOk result (made.new ≡ made.old ++ extension_rows mission.now table.now number extension.now) }
+    ensures { OnOk result (made.new ≡ made.old ++ extension_items mission.now index.now number mark.0 new.now extension.now) }
 {
-    let new = table.newest.as_slice();
-    let mark = PointId(table.points - new.len() as u32 - 1);
+    let points = index.points() as u32;
     add_horizon(made, mission, number, mark)?;
-    add_points(made, mark.0, table.points)?;
-    add_lengths(made, mission, table, new)?;
-    add_starts(made, table, mark, new)?;
-    add_lasts(made, table, mark)?;
-    add_supports(made, mission, table, extension.supports.as_slice())?;
-    add_goals_of(made, mission, table, number, extension.goals.as_slice())?;
+    add_points(made, mark.0, points)?;
+    add_lengths(made, mission, index, new)?;
+    add_starts(made, index, mark, new)?;
+    add_lasts(made, index, mission.vars.len() as u32, mark)?;
+    add_supports(made, mission, index, extension.supports.as_slice())?;
+    add_goals_of(made, mission, index, number, extension.goals.as_slice())?;
     add_fixed(made, extension.fixed.as_slice())?;
-    add_since(made, table.fixed.as_slice(), table.points, extension.since)?;
+    add_since(made, index, points, extension.since)?;
+    Ok(())
+}
+
+/// Takes an extension into the index, and adds its bounds.
+fn add_next(
+    alloc: Global,
+    made: &mut List<Bound>,
+    mission: &Mission,
+    index: &mut PlanIndex,
+    extension: &Extension,
+) -> Result<(), Memory>
+    requires mission { IsMission mission.now }
+    requires small { length index.old.points + length extension.now.tokens + 1 < 2 ^ 32 }
+    requires times { All (λ t. pos 0 ≤ℤ t.at) extension.now.fixed }
+    requires since { InRange whole extension.now.since }
+    ensures { (es : List Extension) → index.old ≡ contents_of es → OnOk result ((index.new ≡ contents_of (es ++ extension.now ∷ [])) × (made.new ≡ made.old ++ new_bounds mission.now es extension.now)) }
+{
+    let number = index.horizons();
+    let before = index.points();
+    let mark = PointId(before as u32);
+    index.extend(extension)?;
+    let new = ended_at(alloc, &index.names()[before + 1..])?;
+    add_extension(
+        made,
+        mission,
+        index,
+        number,
+        mark,
+        new.as_slice(),
+        extension,
+    )?;
     Ok(())
 }
 
 /// The bounds of these extensions.
-#[tactic(auto, using(crate::proofs::RowLemmas::bounds_step))]
 fn bounds_of_all(
     alloc: Global,
     mission: &Mission,
@@ -56,14 +101,10 @@ fn bounds_of_all(
     requires within { IsWithin mission.now extensions.now }
     ensures { IfOk result (λ made. made ≡ bounds_of mission.now extensions.now) }
 {
-    let points = points_of_all(extensions) as usize;
-    let mut table = Table::begin(alloc, mission.vars.len(), points)?;
+    let mut index = PlanIndex::new(alloc)?;
     let mut made = List::new(alloc);
-    for k in 0..extensions.len() {
-        let extension = &extensions[k];
-        table.grow(alloc, extensions, k)?;
-        table.mark(extension.fixed.as_slice());
-        add_extension(&mut made, mission, &table, k, extension)?;
+    for extension in extensions {
+        add_next(alloc, &mut made, mission, &mut index, extension)?;
     }
     Ok(made)
 }

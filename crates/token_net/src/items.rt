@@ -2,11 +2,13 @@ ghost use Rattle.std.specs.Prelude.{◌≡◌, ◌-◌, ◌≤◌, [], ◌∷◌
 ghost use Rattle.hs_base.specs.Schedule.{bound};
 ghost use Rattle.hs_base.specs.Bounds.{on_some, exactly, point_bounds, fixed_bounds};
 ghost use Rattle.hs_base.specs.Missions.{IsMission};
-ghost use Rattle.token_net.specs.Rows.{length_row, length_rows, start_rows, last_in, last_rows, support_row, support_rows, goal_row, goal_rows, since_rows};
+ghost use Rattle.token_net.specs.Items.{first_of, last_of, length_item, length_items, start_items, last_item, last_items, support_item, support_items, goal_item, goal_items, since_item, since_items};
 
 use crate::apart::{Ends, add_apart, add_exactly, add_relation};
-use crate::table::{Placed, Table};
-use hs_base::{Bound, Goal, LAST, List, Memory, Mission, PointId, Range, Support, Time, TokenRef};
+use hs_base::{
+    Bound, Goal, LAST, List, Memory, Mission, PointId, Range, Support, SvId, Time, TokenRef,
+};
+use plan_index::PlanIndex;
 
 const WHOLE: Range = Range { low: 0, high: LAST };
 
@@ -54,17 +56,17 @@ pub(crate) fn add_points(made: &mut List<Bound>, first: u32, points: u32) -> Res
 fn add_length(
     made: &mut List<Bound>,
     mission: &Mission,
-    table: &Table,
+    index: &PlanIndex,
     token: TokenRef,
 ) -> Result<(), Memory>
     requires { IsMission mission.now }
-    ensures { OnOk result (made.new ≡ made.old ++ length_row mission.now table.now.rows.items table.now.points token) }
+    ensures { OnOk result (made.new ≡ made.old ++ length_item mission.now index.now token) }
 {
-    let Some(kind) = table.kind(token) else {
+    let Some(kind) = index.token(token) else {
         return Ok(());
     };
     match mission.value(kind) {
-        Some(value) => add_apart(made, table.stop(token), table.start(token), value.lasts),
+        Some(value) => add_apart(made, index.end(token), index.start(token), value.lasts),
         None => Ok(()),
     }
 }
@@ -74,14 +76,14 @@ fn add_length(
 pub(crate) fn add_lengths(
     made: &mut List<Bound>,
     mission: &Mission,
-    table: &Table,
+    index: &PlanIndex,
     new: &[TokenRef],
 ) -> Result<(), Memory>
     requires { IsMission mission.now }
-    ensures { OnOk result (made.new ≡ made.old ++ length_rows mission.now table.now.rows.items table.now.points new.now) }
+    ensures { OnOk result (made.new ≡ made.old ++ length_items mission.now index.now new.now) }
 {
     for token in new {
-        add_length(made, mission, table, *token)?;
+        add_length(made, mission, index, *token)?;
     }
     Ok(())
 }
@@ -90,37 +92,59 @@ pub(crate) fn add_lengths(
 #[tactic(auto, using(crate::proofs::ItemLemmas::flat_more))]
 pub(crate) fn add_starts(
     made: &mut List<Bound>,
-    table: &Table,
+    index: &PlanIndex,
     mark: PointId,
     new: &[TokenRef],
 ) -> Result<(), Memory>
-    ensures { OnOk result (made.new ≡ made.old ++ start_rows table.now.rows.items table.now.points mark.0 new.now) }
+    ensures { OnOk result (made.new ≡ made.old ++ start_items index.now mark.0 new.now) }
 {
     for token in new {
-        add_before(made, table.start(*token), mark)?;
+        add_before(made, index.start(*token), mark)?;
     }
     Ok(())
 }
 
-/// A timeline ends after the horizon.
-fn add_last(made: &mut List<Bound>, row: &[Placed], mark: PointId) -> Result<(), Memory>
-    ensures { OnOk result (made.new ≡ made.old ++ last_in mark.0 row.now) }
+/// The timeline of a variable ends after the horizon.
+fn add_last(
+    made: &mut List<Bound>,
+    index: &PlanIndex,
+    sv: SvId,
+    mark: PointId,
+) -> Result<(), Memory>
+    ensures { OnOk result (made.new ≡ made.old ++ last_item index.now mark.0 sv.0) }
 {
-    match row.last() {
-        Some(placed) => add_before(made, mark, placed.end),
-        None => Ok(()),
+    let timeline = index.timeline(sv);
+    if timeline.is_empty() {
+        return Ok(());
     }
+    add_before(made, mark, timeline[timeline.len() - 1].end)
 }
 
 /// Each timeline ends after the horizon.
-#[tactic(auto, using(crate::proofs::ItemLemmas::flat_more))]
-pub(crate) fn add_lasts(made: &mut List<Bound>, table: &Table, mark: PointId) -> Result<(), Memory>
-    ensures { OnOk result (made.new ≡ made.old ++ last_rows table.now.rows.items mark.0) }
+#[tactic(auto, using(crate::proofs::ItemLemmas::flat_numbers))]
+pub(crate) fn add_lasts(
+    made: &mut List<Bound>,
+    index: &PlanIndex,
+    vars: u32,
+    mark: PointId,
+) -> Result<(), Memory>
+    ensures { OnOk result (made.new ≡ made.old ++ last_items index.now mark.0 vars) }
 {
-    for row in &table.rows {
-        add_last(made, row.as_slice(), mark)?;
+    for v in 0..vars {
+        add_last(made, index, SvId(v), mark)?;
     }
     Ok(())
+}
+
+/// The points that start and end a token.
+fn ends_of(index: &PlanIndex, token: TokenRef) -> Ends
+    ensures start { result.start.0 ≡ first_of index.now token }
+    ensures stop { result.stop.0 ≡ last_of index.now token }
+{
+    Ends {
+        start: index.start(token),
+        stop: index.end(token),
+    }
 }
 
 /// A support keeps the relation of the choice that its token is for.
@@ -128,27 +152,27 @@ pub(crate) fn add_lasts(made: &mut List<Bound>, table: &Table, mark: PointId) ->
 fn add_support(
     made: &mut List<Bound>,
     mission: &Mission,
-    table: &Table,
+    index: &PlanIndex,
     support: Support,
 ) -> Result<(), Memory>
     requires { IsMission mission.now }
-    ensures { OnOk result (made.new ≡ made.old ++ support_row mission.now table.now.rows.items table.now.points support) }
+    ensures { OnOk result (made.new ≡ made.old ++ support_item mission.now index.now support) }
 {
-    let Some(kind) = table.kind(support.token) else {
+    let Some(kind) = index.token(support.token) else {
         return Ok(());
     };
     let Some(need) = mission.need(kind, support.need) else {
         return Ok(());
     };
-    let Some(by) = table.kind(support.by) else {
+    let Some(by) = index.token(support.by) else {
         return Ok(());
     };
     match need.choice(by) {
         Some(choice) => add_relation(
             made,
             choice.relation,
-            table.ends(support.token),
-            table.ends(support.by),
+            ends_of(index, support.token),
+            ends_of(index, support.by),
         ),
         None => Ok(()),
     }
@@ -159,14 +183,14 @@ fn add_support(
 pub(crate) fn add_supports(
     made: &mut List<Bound>,
     mission: &Mission,
-    table: &Table,
+    index: &PlanIndex,
     supports: &[Support],
 ) -> Result<(), Memory>
     requires { IsMission mission.now }
-    ensures { OnOk result (made.new ≡ made.old ++ support_rows mission.now table.now.rows.items table.now.points supports.now) }
+    ensures { OnOk result (made.new ≡ made.old ++ support_items mission.now index.now supports.now) }
 {
     for support in supports {
-        add_support(made, mission, table, *support)?;
+        add_support(made, mission, index, *support)?;
     }
     Ok(())
 }
@@ -174,32 +198,32 @@ pub(crate) fn add_supports(
 /// A goal's token starts and stops in the goal's ranges.
 fn add_goal(
     made: &mut List<Bound>,
-    table: &Table,
+    index: &PlanIndex,
     goal: &Goal,
     token: TokenRef,
 ) -> Result<(), Memory>
     requires start { pos 0 ≤ℤ goal.now.start.low }
     requires stop { pos 0 ≤ℤ goal.now.stop.low }
-    ensures { OnOk result (made.new ≡ made.old ++ goal_row table.now.rows.items table.now.points goal.now token) }
+    ensures { OnOk result (made.new ≡ made.old ++ goal_item index.now goal.now token) }
 {
-    add_apart(made, table.start(token), PointId(0), goal.start)?;
-    add_apart(made, table.stop(token), PointId(0), goal.stop)
+    add_apart(made, index.start(token), PointId(0), goal.start)?;
+    add_apart(made, index.end(token), PointId(0), goal.stop)
 }
 
 /// The goals' tokens start and stop in the goals' ranges.
 #[tactic(auto, using(crate::proofs::ItemLemmas::goals_more, crate::proofs::ItemLemmas::goals_all))]
 pub(crate) fn add_goals(
     made: &mut List<Bound>,
-    table: &Table,
+    index: &PlanIndex,
     goals: &[Goal],
     entries: &[TokenRef],
 ) -> Result<(), Memory>
     requires { All (λ g. (pos 0 ≤ℤ g.start.low) × (pos 0 ≤ℤ g.stop.low)) goals.now }
-    ensures { OnOk result (made.new ≡ made.old ++ goal_rows table.now.rows.items table.now.points goals.now entries.now) }
+    ensures { OnOk result (made.new ≡ made.old ++ goal_items index.now goals.now entries.now) }
 {
     let count = goals.len().min(entries.len());
     for i in 0..count {
-        add_goal(made, table, &goals[i], entries[i])?;
+        add_goal(made, index, &goals[i], entries[i])?;
     }
     Ok(())
 }
@@ -208,15 +232,15 @@ pub(crate) fn add_goals(
 pub(crate) fn add_goals_of(
     made: &mut List<Bound>,
     mission: &Mission,
-    table: &Table,
+    index: &PlanIndex,
     number: usize,
     entries: &[TokenRef],
 ) -> Result<(), Memory>
     requires { IsMission mission.now }
-    ensures { OnOk result (made.new ≡ made.old ++ goal_rows table.now.rows.items table.now.points (on_some (slice_get mission.now.horizons number) (λ h. h.goals)) entries.now) }
+    ensures { OnOk result (made.new ≡ made.old ++ goal_items index.now (on_some (slice_get mission.now.horizons number) (λ h. h.goals)) entries.now) }
 {
     match mission.horizons.as_slice().get(number) {
-        Some(horizon) => add_goals(made, table, horizon.goals.as_slice(), entries),
+        Some(horizon) => add_goals(made, index, horizon.goals.as_slice(), entries),
         None => Ok(()),
     }
 }
@@ -236,18 +260,18 @@ pub(crate) fn add_fixed(made: &mut List<Bound>, times: &[Time]) -> Result<(), Me
 /// A point that is not fixed stands at that time or later.
 fn add_since_at(
     made: &mut List<Bound>,
-    is_fixed: bool,
-    point: u32,
+    index: &PlanIndex,
+    point: PointId,
     since: i64,
 ) -> Result<(), Memory>
     requires { pos 0 ≤ℤ since }
-    ensures { OnOk result (made.new ≡ made.old ++ cond is_fixed [] (bound point 0 (neg_ℤ since) ∷ [])) }
+    ensures { OnOk result (made.new ≡ made.old ++ since_item index.now since point.0) }
 {
-    if is_fixed {
+    if index.is_fixed(point) {
         return Ok(());
     }
     made.push(Bound {
-        from: PointId(point),
+        from: point,
         to: PointId(0),
         most: -since,
     })
@@ -257,17 +281,17 @@ fn add_since_at(
 #[tactic(auto, using(crate::proofs::ItemLemmas::flat_numbers))]
 pub(crate) fn add_since(
     made: &mut List<Bound>,
-    fixed: &[bool],
+    index: &PlanIndex,
     points: u32,
     since: i64,
 ) -> Result<(), Memory>
+    requires all { points ≡ length index.now.points }
     requires some { 1 ≤ points }
-    requires flags { points ≤ length fixed.now }
     requires time { pos 0 ≤ℤ since }
-    ensures { OnOk result (made.new ≡ made.old ++ since_rows fixed.now points since) }
+    ensures { OnOk result (made.new ≡ made.old ++ since_items index.now since) }
 {
     for x in 1..points {
-        add_since_at(made, fixed[x as usize], x, since)?;
+        add_since_at(made, index, PointId(x), since)?;
     }
     Ok(())
 }

@@ -5,7 +5,6 @@ mod apart;
 mod bounding;
 mod items;
 mod numbers;
-mod table;
 
 pub use bounding::bounds;
-pub use numbers::{end_of, horizon_point, observed, points, start_of};
+pub use numbers::{horizon_point, points};

@@ -1,8 +1,7 @@
-use Rattle.std.proofs.Common.{◌≡◌, ◌+◌, ◌-◌, ◌<◌, ◌≤◌, ℕ, ◌∷◌, [], ◌++◌, length, map, take, get_or, vec_len, sym, ap, ◌∙◌, subst, arith, append_assoc, append-nil, refl}
-use Rattle.std.proofs.lemmas.List.{length-map, map_push, take_more, length-take-le}
+use Rattle.std.proofs.Common.{◌≡◌, ◌+◌, ◌-◌, ℕ, ◌∷◌, [], ◌++◌, length, map, take, get_or, sym, ap, ◌∙◌, subst, arith, append_assoc, append-nil, refl}
+use Rattle.std.proofs.lemmas.List.{length-map, map_push, take_more}
 use Rattle.hs_base.specs.declared.mission.Kind.{Kind}
-use Rattle.hs_base.specs.declared.plan.TokenRef.{TokenRef}
-use Rattle.hs_base.specs.Points.{Point, timeline_of, ref_after, refs_after, ending}
+use Rattle.hs_base.specs.Points.{timeline_of, ref_after, refs_after, ending}
 use Rattle.base_laws.proofs.PointLemmas.{end_points-push}
 use Rattle.plan_index.specs.declared.placed.PlacedToken.{PlacedToken}
 use Rattle.plan_index.specs.declared.point_name.PointName.TheVariants.{End}
@@ -54,11 +53,11 @@ loop-kind-preserved c =
     let place : c.place-place.result ≡ length (timeline_of ts t.sv.0) = c.place-place.ensures.place ∙ row_many ts points (row_of c.loop-kind.lines.items) t.sv.0 c.loop-kind.invariant.lines in
     let tokens_are : c.push_reserved-in-loop-kind.new.self.items ≡ ts ++ t ∷ [] = c.push_reserved-in-loop-kind.ensures.items in
     let names_are : map named c.push_reserved.new.self.items ≡ points ++ end_of (ref_after ts t) ∷ [] =
-        ap (map named) c.push_reserved.ensures.items ∙ map_push named names (End (record { sv = t.sv; place = c.place-place.result }))
-        ∙ ap (λ (i : ℕ). points ++ ending t.sv.0 i ∷ []) place in
+    ap (map named) c.push_reserved.ensures.items ∙ map_push named names (End (record { sv = t.sv; place = c.place-place.result }))
+    ∙ ap (λ (i : ℕ). points ++ ending t.sv.0 i ∷ []) place in
     let ref : end_of (ref_after ts t) ≡ end_of (ref_after (old ++ take j new) t) = ap (λ l. end_of (ref_after l t)) c.loop-kind.invariant.tokens in
     let lines : AreLines (ts ++ t ∷ []) (points ++ end_of (ref_after ts t) ∷ []) (row_of c.place-place.new.lines.items) =
-        lines_token ts points (row_of c.loop-kind.lines.items) (row_of c.place-place.new.lines.items) t p refl (omega (arith, c.len.ensures, length-map names named)) c.place-place.ensures.own c.place-place.ensures.others c.loop-kind.invariant.lines in
+    lines_token ts points (row_of c.loop-kind.lines.items) (row_of c.place-place.new.lines.items) t p refl (omega (arith, c.len.ensures, length-map names named)) c.place-place.ensures.own c.place-place.ensures.others c.loop-kind.invariant.lines in
     record {
       many = omega (arith, c.push_reserved.ensures.len, c.loop-kind.invariant.many);
       names_room = c.push_reserved.ensures.capacity ∙ c.loop-kind.invariant.names_room;

@@ -1,4 +1,4 @@
-use Rattle.std.proofs.Common.{◌≡◌, ℕ, ◌∷◌, [], ◌++◌, sym, ap, ◌∙◌, subst, arith}
+use Rattle.std.proofs.Common.{◌≡◌, ◌∷◌, [], ◌++◌, sym, ap, ◌∙◌, subst, arith}
 use Rattle.plan_index.specs.declared.placed.Timeline.{Timeline}
 use Rattle.plan_index.specs.Lines.{row_of, HasRoom}
 use Rattle.plan_index.proofs.LineLemmas.{row_pushed, room_pushed}

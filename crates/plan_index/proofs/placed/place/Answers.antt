@@ -1,4 +1,3 @@
-use Rattle.std.proofs.Common.{◌≡◌, ◌<◌, length, arith}
 use Rattle.std.proofs.lemmas.Option.{slice_get_within}
 use Rattle.plan_index.proofs.LineLemmas.{room_placed}
 use Rattle.plan_index.proofs.placed.place.Goals as goal

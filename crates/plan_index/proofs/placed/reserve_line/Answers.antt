@@ -1,4 +1,4 @@
-use Rattle.std.proofs.Common.{◌≡◌, ◌<◌, ◌≤◌, vec_len, arith}
+use Rattle.std.proofs.Common.{◌<◌, vec_len, arith}
 use Rattle.plan_index.proofs.LineLemmas.{slice_get-set_same, room_reserved}
 use Rattle.plan_index.proofs.placed.reserve_line.Goals as goal
 

@@ -41,8 +41,8 @@ returns-in-Some-child-clause-planned g c =
     let p = c.in-Some-child.plan in
     let one = subst (λ (o : Option Planned). IfSome o (IsPlanAt (g.F.Filter.test c.nodes.filter) c.nodes.db.mission c.nodes.db.begun (c.nodes.taken + 1))) c.in-Some-child.is c.in_ok-child.ensures.found in
     let here = subst (λ f. IsPlanAt (g.F.Filter.test f) m b (c.nodes.taken + 1) p) i.same
-        (subst (λ (x : Mission). IsPlanAt (g.F.Filter.test c.nodes.filter) x b (c.nodes.taken + 1) p) i.mission
-        (subst (λ (x : Begun). IsPlanAt (g.F.Filter.test c.nodes.filter) c.nodes.db.mission x (c.nodes.taken + 1) p) i.begun one)) in
+    (subst (λ (x : Mission). IsPlanAt (g.F.Filter.test c.nodes.filter) x b (c.nodes.taken + 1) p) i.mission
+    (subst (λ (x : Begun). IsPlanAt (g.F.Filter.test c.nodes.filter) c.nodes.db.mission x (c.nodes.taken + 1) p) i.begun one)) in
     let below = below_budget c.nodes.taken c.args.budget i.within c.if-taken-budget.false in
     plan_found takes m b (c.nodes.taken + 1) c.args.budget c.args.steps.now (c.tick.new.self + 1) p (omega (arith, below)) (omega (arith, c.tick.ensures, i.steps)) here
 

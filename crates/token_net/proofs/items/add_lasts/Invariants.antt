@@ -1,6 +1,6 @@
-use Rattle.std.proofs.Common.{◌≡◌, ◌++◌, take}
-use Rattle.token_net.specs.Rows.{last_rows}
+use Rattle.std.proofs.Common.{◌≡◌, ◌++◌}
+use Rattle.token_net.specs.Items.{last_items}
 use Rattle.token_net.proofs.items.add_lasts.Given as goal
 
-abbrev pub invariant-loop-row : goal.invariant-loop-row
-invariant-loop-row l = l.made ≡ l.initial.made ++ last_rows (take l.row-index l.row-items) l.mark.0
+abbrev pub invariant-loop-v : goal.invariant-loop-v
+invariant-loop-v l = l.made ≡ l.initial.made ++ last_items l.index l.mark.0 l.v

@@ -1,4 +1,4 @@
-use Rattle.std.proofs.Common.{◌≡◌, ◌+◌, ◌<◌, ◌≤◌, ℕ, ◌∷◌, [], ◌++◌, length, map, refl, sym, ap, ◌∙◌, subst, arith, append_assoc}
+use Rattle.std.proofs.Common.{◌≡◌, ◌+◌, ◌∷◌, [], ◌++◌, length, map, sym, ap, ◌∙◌, subst, arith, append_assoc}
 use Rattle.std.specs.Prelude.{All}
 use Rattle.hs_base.specs.Points.{horizon, refs_after}
 use Rattle.plan_index.specs.Contents.{Contents, end_of, extended}
@@ -30,7 +30,7 @@ returns-clause-index c =
     let ends = map end_of (refs_after s.tokens.items e.tokens) in
     let points : map named c.add_tokens.new.names.items ≡ map named c.add_horizon.new.names.items ++ ends = c.add_tokens.ensures.names ∙ ap (λ ts. map named c.add_horizon.new.names.items ++ map end_of (refs_after s.tokens.items ts)) c.as_slice-tokens.ensures in
     let all : map named c.add_tokens.new.names.items ≡ map named s.names.items ++ horizon (length s.horizons.items + 1) ∷ ends =
-        points ∙ ap (λ ps. ps ++ ends) c.add_horizon.ensures.names ∙ append_assoc (map named s.names.items) (horizon (length s.horizons.items + 1) ∷ []) ends in
+    points ∙ ap (λ ps. ps ++ ends) c.add_horizon.ensures.names ∙ append_assoc (map named s.names.items) (horizon (length s.horizons.items + 1) ∷ []) ends in
     let tokens : c.add_tokens.new.tokens.items ≡ s.tokens.items ++ e.tokens = c.add_tokens.ensures.tokens ∙ ap (λ ts. s.tokens.items ++ ts) c.as_slice-tokens.ensures in
     let fixed : c.add_times.new.fixed.items ≡ s.fixed.items ++ e.fixed = c.add_times.ensures.fixed ∙ ap (λ ts. s.fixed.items ++ ts) c.as_slice.ensures in
     let new : Contents = record { horizons = length c.add_horizon.new.horizons.items; points = map named c.add_tokens.new.names.items; tokens = c.add_tokens.new.tokens.items; fixed = c.add_times.new.fixed.items } in

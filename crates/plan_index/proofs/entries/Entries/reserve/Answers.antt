@@ -1,7 +1,5 @@
-use Rattle.std.proofs.Common.{◌≡◌, ◌<◌, ◌≤◌, ℕ, length, get_or, sym, ap, subst, arith}
-use Rattle.hs_base.specs.declared.mission.Kind.{Kind}
-use Rattle.hs_base.specs.declared.plan.Time.{Time}
-use Rattle.std.specs.Prelude.{All, Option, OnOk, Ok, Err, vec_len}
+use Rattle.std.proofs.Common.{◌≡◌, ◌<◌, length, ap, subst, arith}
+use Rattle.std.specs.Prelude.{All, vec_len}
 use Rattle.plan_index.specs.Lines.{HasRoom}
 use Rattle.plan_index.proofs.entries.Entries.reserve.Goals as goal
 

@@ -1,4 +1,4 @@
-use Rattle.std.proofs.Common.{◌≡◌, ◌∙◌, sym, ap, arith}
+use Rattle.std.proofs.Common.{◌∙◌, sym, ap, arith}
 use Rattle.hs_base.specs.Points.{place_of}
 use Rattle.plan_index.specs.Contents.{Contents, end_of}
 use Rattle.plan_index.proofs.IndexLemmas.{end_there, end_nowhere}

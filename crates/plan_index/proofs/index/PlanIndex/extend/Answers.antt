@@ -1,4 +1,4 @@
-use Rattle.std.proofs.Common.{◌≡◌, ◌∙◌, sym, ap, length, map}
+use Rattle.std.proofs.Common.{◌∙◌, sym, ap, length, map}
 use Rattle.plan_index.specs.Contents.{extended}
 use Rattle.plan_index.specs.Entered.{contents}
 use Rattle.plan_index.specs.Named.{named}

@@ -1,4 +1,4 @@
-use Rattle.std.proofs.Common.{◌≡◌, ◌-◌, ◌∙◌, sym, ap, arith}
+use Rattle.std.proofs.Common.{◌∙◌, sym, ap, arith}
 use Rattle.hs_base.specs.Points.{horizon, place_of}
 use Rattle.plan_index.specs.Contents.{Contents}
 use Rattle.plan_index.proofs.IndexLemmas.{horizon_there, horizon_nowhere}

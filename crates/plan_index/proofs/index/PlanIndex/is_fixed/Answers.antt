@@ -1,4 +1,4 @@
-use Rattle.std.proofs.Common.{◌≡◌, ◌∙◌, ap}
+use Rattle.std.proofs.Common.{◌∙◌, ap}
 use Rattle.plan_index.specs.Contents.{Contents}
 use Rattle.plan_index.specs.Named.{has_time}
 use Rattle.plan_index.proofs.IndexLemmas.{has_time-of}

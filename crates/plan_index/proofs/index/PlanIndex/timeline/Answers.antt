@@ -1,4 +1,4 @@
-use Rattle.std.proofs.Common.{◌≡◌, ◌∙◌, sym, ap, map}
+use Rattle.std.proofs.Common.{◌∙◌, sym, ap, map}
 use Rattle.std.specs.Prelude.{slice_get}
 use Rattle.hs_base.specs.Points.{ending, place_of, timeline_of}
 use Rattle.plan_index.specs.Contents.{Contents}
