@@ -132,7 +132,7 @@ taken_at_first p q old new by reply checked one same is turn not_done not_memory
     by_reply Done lawful d e = d refl
     by_reply Memory lawful d e = e refl
     by_reply OtherMission lawful d e = lawful refl
-    by_reply (NotNext current agree) lawful d e = lawful.1 (is_next p.plan.extensions one)
+    by_reply (NotNext current agree) lawful d e = lawful.1.0 (is_next p.plan.extensions one)
     by_reply (Stale b from to) lawful d e = lawful.2 checked.schedule (start_fits p checked)
     by_reply _ lawful d e = lawful
 
