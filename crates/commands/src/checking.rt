@@ -11,7 +11,7 @@ use crate::{Outcome, Status};
 use answer_lines::{fault_line, push_checked};
 use hs_base::{Copies, Extension, Fault, Memory, Mission, Plan};
 use hs_texts::Text;
-use plan_check::CheckedPlan;
+use plan_check::{CheckedPlan, Checker};
 use std::alloc::Global;
 
 /// Where a plan breaks the rules first.
@@ -44,14 +44,14 @@ pub fn check_each(
     ensures checked { IfOk result (λ c. Checked mission.now extensions.now) }
     ensures flaw { IfErr result (λ flaw. flaw.fault ≢ NoMemoryLeft → IsFlaw mission.now extensions.now flaw.place flaw.fault) }
 {
-    let mut checked = CheckedPlan::none(alloc, mission.copy(alloc)?)?;
+    let mut checker = Checker::begin(alloc, mission.copy(alloc)?)?;
     for place in 0..extensions.len() {
-        match plan_check::check(alloc, &checked, extensions[place].copy(alloc)?) {
-            Ok(next) => checked = next,
+        match checker.check(extensions[place].copy(alloc)?) {
+            Ok(next) => checker = next,
             Err(fault) => return Err(Flaw { place, fault }),
         }
     }
-    Ok(checked)
+    Ok(checker.into_plan())
 }
 
 /// The lines of a plan's first flaw.

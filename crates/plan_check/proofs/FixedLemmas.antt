@@ -1,14 +1,14 @@
 -- Which points an extension may fix.
-use Rattle.std.proofs.Common.{◌≡◌, ℕ, ◌+◌, ◌<◌, ◌≤◌, false, true, Bool, ◌||◌, nat_eq, List, [], ◌∷◌, ◌++◌, length, take, get_or, refl, sym, ap, ◌∙◌, subst, arith}
+use Rattle.std.proofs.Common.{◌≡◌, ℕ, ◌+◌, ◌<◌, ◌≤◌, List, [], ◌∷◌, ◌++◌, length, take, get_or, refl, sym, ◌∙◌, subst, arith}
 use Rattle.std.proofs.lemmas.List.{take_more}
-use Rattle.std.specs.List.{AllByRecursion, list_any}
+use Rattle.std.specs.List.{AllByRecursion}
 use Rattle.hs_base.specs.declared.plan.Time.{Time}
 use Rattle.hs_base.specs.declared.plan.Extension.{Extension}
-use Rattle.hs_base.specs.Points.{count}
-use Rattle.hs_base.specs.Bounds.{is_fixed}
 use Rattle.hs_base.specs.Checked.{KeepsFixedAt}
 use Rattle.base_laws.proofs.ListLemmas.{each_weaker, each_both}
-use Rattle.plan_check.specs.Fixing.{AreFlags, MayFix}
+use Rattle.plan_index.specs.Contents.{contents_of}
+use Rattle.plan_index.proofs.IndexLemmas.{has_time-of}
+use Rattle.plan_check.specs.Fixing.{MayFix}
 
 -- the point of the last entry
 abbrev pub latest : List Time → ℕ
@@ -43,32 +43,21 @@ rising-push ts i d last below h at =
       each = each_both P (take i ts) (t ∷ []) (each_weaker (λ (b : Time). b.point.0 ≤ last) P (λ b less. omega (arith, less, at)) (take i ts) h.each) (omega arith, tt);
     })
 
-module _ (es : List Extension) (e : Extension) (flags : List Bool) (size : length flags ≡ count es) (marked : AreFlags es flags) (before : List Time) (last : ℕ) (rising : AreRising before last) where
-  pub fixes : (t : Time) → MayFix flags last e.since t → KeepsFixedAt es e before t
+module _ (es : List Extension) (e : Extension) (before : List Time) (last : ℕ) (rising : AreRising before last) where
+  pub fixes : (t : Time) → MayFix (contents_of es) last e.since t → KeepsFixedAt es e before t
   fixes t h = record {
     not_origin = let b = h.behind in omega (arith, b);
-    below = let b = h.below in omega (arith, b, size);
-    new = sym (marked t.point.0) ∙ h.new;
+    below = h.below;
+    new = sym (has_time-of es t.point.0) ∙ h.new;
     rising = each_weaker (λ (b : Time). b.point.0 ≤ last) (λ (b : Time). b.point.0 < t.point.0) (λ b less. let at = h.behind in omega (arith, less, at)) before rising.each;
     at = (h.low, h.high);
   }
 
-  pub fixes_in : (t : Time) → KeepsFixedAt es e before t → MayFix flags last e.since t
+  pub fixes_in : (t : Time) → KeepsFixedAt es e before t → MayFix (contents_of es) last e.since t
   fixes_in t h = record {
     behind = let most = latest_below before t.point.0 h.not_origin h.rising in omega (arith, most, rising.latest);
-    below = let b = h.below in omega (arith, b, size);
-    new = marked t.point.0 ∙ h.new;
+    below = h.below;
+    new = has_time-of es t.point.0 ∙ h.new;
     low = h.at.0;
     high = h.at.1;
   }
-
--- one more flag
-pub marked_more : (es : List Extension) (i : ℕ) (d : Extension) (flags next : List Bool) → i < length es → AreFlags (take i es) flags → ((x : ℕ) → get_or next x false ≡ (get_or flags x false || list_any (λ (t : Time). nat_eq t.point.0 x) (get_or es i d).fixed)) → AreFlags (take (i + 1) es) next
-marked_more es i d flags next below h is = λ x.
-    is x
-    ∙ ap (λ b. b || list_any (λ (t : Time). nat_eq t.point.0 x) (get_or es i d).fixed) (h x)
-    ∙ sym (ap (λ l. is_fixed l x) (take_more es i d below) ∙ any-push (λ (e : Extension). list_any (λ (t : Time). nat_eq t.point.0 x) e.fixed) (take i es) (get_or es i d))
-  where
-    any-push : {X : Type 0} (p : X → Bool) (xs : List X) (y : X) → list_any p (xs ++ y ∷ []) ≡ (list_any p xs || p y)
-    any-push p [] y = elim (p y) as (λ v. (v || false) ≡ (false || v)) [ true ↦ refl | false ↦ refl ]
-    any-push p (x ∷ xs) y = elim (p x) as (λ v. (v || list_any p (xs ++ y ∷ [])) ≡ ((v || list_any p xs) || p y)) [ true ↦ refl | false ↦ any-push p xs y ]

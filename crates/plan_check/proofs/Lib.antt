@@ -7,3 +7,4 @@ pub mod SupportLemmas
 pub mod NeedLemmas
 pub mod LimitLemmas
 pub mod CheckLemmas
+pub mod TrailLemmas

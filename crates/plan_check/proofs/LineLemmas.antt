@@ -1,78 +1,118 @@
--- The rows of timelines, one token on.
-use Rattle.std.proofs.Common.{◌≡◌, ℕ, zero, suc, ◌+◌, ◌<◌, ◌≤◌, false, nat_eq, List, [], ◌∷◌, ◌++◌, length, take, get_or, replicate, refl, sym, ap, ◌∙◌, subst, arith, inl, inr, append_assoc, append-nil, get_or-set_same, get_or-set_other, length-set}
-use Rattle.std.proofs.lemmas.List.{length-replicate, take_more, take_all}
-use Rattle.std.proofs.lemmas.Bool.{cases_eq, eq-eqb}
-use Rattle.std.proofs.lemmas.Bool.Decides.{nat_tests}
-use Rattle.std.specs.Prelude.{slice_set}
+-- The tokens of a plan with new ones behind it.
+use Rattle.std.proofs.Common.{◌≡◌, ℕ, suc, ◌+◌, ◌<◌, false, true, nat_eq, List, [], ◌∷◌, ◌++◌, length, map, take, get_or, Some, None, refl, sym, ap, ◌∙◌, subst, arith, inl, inr, length-append, append-nil}
+use Rattle.std.proofs.lemmas.Bool.{cases_Bool, eqb-true}
+use Rattle.std.proofs.lemmas.List.{take_more}
+use Rattle.std.specs.Prelude.{slice_get, ◌-◌}
+use Rattle.std.specs.List.{AllByRecursion}
+use Rattle.hs_base.specs.declared.ids.ValId.{ValId}
 use Rattle.hs_base.specs.declared.mission.Kind.{Kind}
-use Rattle.hs_base.specs.declared.plan.Extension.{Extension}
-use Rattle.hs_base.specs.Points.{tokens_of, timeline_of}
-use Rattle.base_laws.proofs.PointLemmas.{timeline-append, tokens-push}
-use Rattle.plan_check.specs.Lines.{row_of, AreLines, AreMore}
+use Rattle.hs_base.specs.declared.mission.Var.{Var}
+use Rattle.hs_base.specs.Points.{timeline_of}
+use Rattle.hs_base.specs.Timelines.{MayFollow}
+use Rattle.hs_base.specs.Checked.{MayStandBehind}
+use Rattle.base_laws.proofs.PointLemmas.{timeline-append}
+use Rattle.plan_index.specs.declared.placed.PlacedToken.{PlacedToken}
+use Rattle.plan_index.specs.Lines.{kind_in}
+use Rattle.plan_check.specs.Lines.{last_value, size_of}
 
-row_none : (vars v : ℕ) → row_of (replicate vars []) v ≡ []
-row_none zero v = refl
-row_none (suc vars) zero = refl
-row_none (suc vars) (suc v) = row_none vars v
+-- the last value with one more token
+pub last_value-push : (ks : List Kind) (k : Kind) → last_value (ks ++ k ∷ []) ≡ Some k.value
+last_value-push [] k = refl
+last_value-push (x ∷ []) k = refl
+last_value-push (x ∷ y ∷ ks) k = last_value-push (y ∷ ks) k
 
-pub lines_none : (vars : ℕ) → AreLines vars [] (replicate vars [])
-lines_none vars = record { size = length-replicate vars []; each = row_none vars }
+-- of two lists it is that of the second, where that has one
+pub last_value-second : (xs ys : List Kind) (v : ValId) → last_value ys ≡ Some v → last_value (xs ++ ys) ≡ Some v
+last_value-second [] ys v is = is
+last_value-second (x ∷ []) [] v is = absurd (cc)
+last_value-second (x ∷ []) (y ∷ ys) v is = is
+last_value-second (x ∷ z ∷ xs) ys v is = last_value-second (z ∷ xs) ys v is
 
--- the rows with one more token
-abbrev pub push_row : List (List Kind) → Kind → List (List Kind)
-push_row rows k = slice_set rows k.sv.0 (row_of rows k.sv.0 ++ k ∷ [])
+-- a list without last value is empty
+pub last_value-none : (ks : List Kind) → last_value ks ≡ None → ks ≡ []
+last_value-none [] is = refl
+last_value-none (k ∷ []) is = absurd (cc)
+last_value-none (k ∷ l ∷ ks) is = absurd (let none = last_value-none (l ∷ ks) is in cc)
 
--- what each row then has
-pub row-push : (rows : List (List Kind)) (k : Kind) → k.sv.0 < length rows → (v : ℕ) → row_of (push_row rows k) v ≡ row_of rows v ++ timeline_of (k ∷ []) v
-row-push rows k below v = elim (cases_eq v k.sv.0) [
-  | inl same ↦
-      let own : timeline_of (k ∷ []) k.sv.0 ≡ k ∷ [] = rw (eq-eqb k.sv.0 k.sv.0 refl) refl in
-      subst (λ (w : ℕ). row_of (push_row rows k) w ≡ row_of rows w ++ timeline_of (k ∷ []) w) (sym same)
-      (get_or-set_same rows k.sv.0 (row_of rows k.sv.0 ++ k ∷ []) [] below ∙ ap (λ l. row_of rows k.sv.0 ++ l) (sym own))
-  | inr apart ↦
-      let test : nat_eq k.sv.0 v ≡ false = grind (arith, nat_tests) in
-      let none : timeline_of (k ∷ []) v ≡ [] = rw test refl in
-      get_or-set_other rows k.sv.0 v (row_of rows k.sv.0 ++ k ∷ []) [] apart ∙ sym (ap (λ l. row_of rows v ++ l) none ∙ append-nil (row_of rows v))
+-- the last of placed tokens has the last value of their kinds
+pub last_value-placed : (v : ℕ) (ps : List PlacedToken) (p : PlacedToken) → slice_get ps (length ps - 1) ≡ Some p → last_value (map (kind_in v) ps) ≡ Some p.value
+last_value-placed v [] p is = absurd (cc)
+last_value-placed v (x ∷ []) p is = let same : x ≡ p = cc in ap (λ (q : PlacedToken). Some q.value) same
+last_value-placed v (x ∷ y ∷ ps) p is = last_value-placed v (y ∷ ps) p (one_less x y ps is)
+  where
+    one_less : (x y : PlacedToken) (ps : List PlacedToken) → slice_get (x ∷ y ∷ ps) (length (x ∷ y ∷ ps) - 1) ≡ Some p → slice_get (y ∷ ps) (length (y ∷ ps) - 1) ≡ Some p
+    one_less x y ps is =
+        let e : length (x ∷ y ∷ ps) - 1 ≡ suc (length (y ∷ ps) - 1) = omega arith in
+        sym (ap (slice_get (x ∷ y ∷ ps)) e) ∙ is
+
+-- placed tokens without a last one are none
+pub placed_none : (ps : List PlacedToken) → slice_get ps (length ps - 1) ≡ None → ps ≡ []
+placed_none [] is = refl
+placed_none (x ∷ []) is = absurd (cc)
+placed_none (x ∷ y ∷ ps) is = absurd (let none = placed_none (y ∷ ps) (one_less x y ps is) in cc)
+  where
+    one_less : (x y : PlacedToken) (ps : List PlacedToken) → slice_get (x ∷ y ∷ ps) (length (x ∷ y ∷ ps) - 1) ≡ None → slice_get (y ∷ ps) (length (y ∷ ps) - 1) ≡ None
+    one_less x y ps is =
+        let e : length (x ∷ y ∷ ps) - 1 ≡ suc (length (y ∷ ps) - 1) = omega arith in
+        sym (ap (slice_get (x ∷ y ∷ ps)) e) ∙ is
+
+-- one more token is on its own timeline alone
+pub own_line : (ks : List Kind) (k : Kind) (v : ℕ) → nat_eq k.sv.0 v ≡ true → timeline_of (ks ++ k ∷ []) v ≡ timeline_of ks v ++ k ∷ []
+own_line ks k v own = timeline-append ks (k ∷ []) v ∙ ap (λ l. timeline_of ks v ++ l) (rw own refl)
+
+pub other_line : (ks : List Kind) (k : Kind) (v : ℕ) → nat_eq k.sv.0 v ≡ false → timeline_of (ks ++ k ∷ []) v ≡ timeline_of ks v
+other_line ks k v other = timeline-append ks (k ∷ []) v ∙ ap (λ l. timeline_of ks v ++ l) (rw other refl) ∙ append-nil (timeline_of ks v)
+
+-- numbers that differ
+pub differ : (a b : ℕ) → (a ≡ b → ⊥) → nat_eq a b ≡ false
+differ a b h = elim (cases_Bool (nat_eq a b)) [ inl same ↦ absurd (h (eqb-true a b same)) | inr other ↦ other ]
+
+-- the last value of a variable among one more of a list's tokens
+pub last_own : (ks : List Kind) (i : ℕ) (d : Kind) (v : ℕ) → i < length ks → nat_eq (get_or ks i d).sv.0 v ≡ true → last_value (timeline_of (take (i + 1) ks) v) ≡ Some (get_or ks i d).value
+last_own ks i d v below own =
+    ap (λ l. last_value (timeline_of l v)) (take_more ks i d below)
+    ∙ ap last_value (own_line (take i ks) (get_or ks i d) v own)
+    ∙ last_value-push (timeline_of (take i ks) v) (get_or ks i d)
+
+pub last_other : (ks : List Kind) (i : ℕ) (d : Kind) (v : ℕ) → i < length ks → nat_eq (get_or ks i d).sv.0 v ≡ false → last_value (timeline_of (take (i + 1) ks) v) ≡ last_value (timeline_of (take i ks) v)
+last_other ks i d v below other =
+    ap (λ l. last_value (timeline_of l v)) (take_more ks i d below)
+    ∙ ap last_value (other_line (take i ks) (get_or ks i d) v other)
+
+-- the last value of a plan with new tokens: that of the new ones, or else of the plan
+pub last_in_new : (tokens new : List Kind) (v : ℕ) (value : ValId) → last_value (timeline_of new v) ≡ Some value → last_value (timeline_of (tokens ++ new) v) ≡ Some value
+last_in_new tokens new v value is = ap last_value (timeline-append tokens new v) ∙ last_value-second (timeline_of tokens v) (timeline_of new v) value is
+
+pub last_in_old : (tokens new : List Kind) (v : ℕ) → last_value (timeline_of new v) ≡ None → last_value (timeline_of (tokens ++ new) v) ≡ last_value (timeline_of tokens v)
+last_in_old tokens new v none =
+    ap last_value (timeline-append tokens new v ∙ ap (λ l. timeline_of tokens v ++ l) (last_value-none (timeline_of new v) none) ∙ append-nil (timeline_of tokens v))
+
+-- how many tokens of a variable there are in both
+pub size-append : (tokens new : List Kind) (v : ℕ) → size_of (tokens ++ new) v ≡ size_of tokens v + size_of new v
+size-append tokens new v = ap length (timeline-append tokens new v) ∙ length-append (timeline_of tokens v) (timeline_of new v)
+
+-- what may stand behind a timeline may follow its last value
+pub stands_after : (var : Var) (ks : List Kind) (last : ValId) (value : ℕ) → last_value ks ≡ Some last → MayFollow var last.0 value → MayStandBehind var ks value
+stands_after var [] last value is h = absurd (cc)
+stands_after var (k ∷ []) last value is h = let same : k.value ≡ last = cc in subst (λ (x : ValId). MayFollow var x.0 value) (sym same) h
+stands_after var (k ∷ l ∷ ks) last value is h = stands_after var (l ∷ ks) last value is h
+
+pub follows_last : (var : Var) (ks : List Kind) (last : ValId) (value : ℕ) → last_value ks ≡ Some last → MayStandBehind var ks value → MayFollow var last.0 value
+follows_last var [] last value is h = absurd (cc)
+follows_last var (k ∷ []) last value is h = let same : k.value ≡ last = cc in subst (λ (x : ValId). MayFollow var x.0 value) same h
+follows_last var (k ∷ l ∷ ks) last value is h = follows_last var (l ∷ ks) last value is h
+
+-- on an empty timeline the begin value stands
+pub stands_first : (var : Var) (ks : List Kind) (value : ℕ) → last_value ks ≡ None → value ≡ var.begin.0 → MayStandBehind var ks value
+stands_first var ks value none is = subst (λ (l : List Kind). MayStandBehind var l value) (sym (last_value-none ks none)) is
+
+pub is_first : (var : Var) (ks : List Kind) (value : ℕ) → last_value ks ≡ None → MayStandBehind var ks value → value ≡ var.begin.0
+is_first var ks value none h = subst (λ (l : List Kind). MayStandBehind var l value) (last_value-none ks none) h
+
+-- a timeline with tokens is that of one of so many variables
+pub below_vars : (vars : ℕ) (tokens : List Kind) (v : ℕ) → AllByRecursion (λ (k : Kind). k.sv.0 < vars) tokens → 0 < size_of tokens v → v < vars
+below_vars vars [] v h some = absurd (omega (arith, some))
+below_vars vars (k ∷ ks) v h some = elim (cases_Bool (nat_eq k.sv.0 v)) [
+  | inl own ↦ let same : k.sv.0 ≡ v = eqb-true _ _ own in let below = h.0 in omega (arith, below, same)
+  | inr other ↦ below_vars vars ks v h.1 (rw other at some)
 ]
-
-pub length-push_row : (rows : List (List Kind)) (k : Kind) → length (push_row rows k) ≡ length rows
-length-push_row rows k = length-set rows k.sv.0 (row_of rows k.sv.0 ++ k ∷ [])
-
--- the timelines of one token more
-pub lines-push : (vars : ℕ) (tokens : List Kind) (rows : List (List Kind)) (k : Kind) → k.sv.0 < vars → AreLines vars tokens rows → AreLines vars (tokens ++ k ∷ []) (push_row rows k)
-lines-push vars tokens rows k below h = record {
-  size = length-push_row rows k ∙ h.size;
-  each = λ v. row-push rows k (omega (arith, below, h.size)) v ∙ ap (λ l. l ++ timeline_of (k ∷ []) v) (h.each v) ∙ sym (timeline-append tokens (k ∷ []) v);
-}
-
--- no token more
-pub more_none : (rows : List (List Kind)) → AreMore rows [] rows
-more_none rows = record { size = refl; each = λ v. sym (append-nil (row_of rows v)) }
-
--- one token more
-pub more_step : (rows : List (List Kind)) (kinds : List Kind) (i : ℕ) (d : Kind) (now next : List (List Kind)) → i < length kinds → (get_or kinds i d).sv.0 < length rows → AreMore rows (take i kinds) now → next ≡ push_row now (get_or kinds i d) → AreMore rows (take (i + 1) kinds) next
-more_step rows kinds i d now next below own h is =
-    let k = get_or kinds i d in
-    record {
-      size = ap length is ∙ length-push_row now k ∙ h.size;
-      each = λ v.
-          ap (λ l. row_of l v) is
-          ∙ row-push now k (omega (arith, own, h.size)) v
-          ∙ ap (λ l. l ++ timeline_of (k ∷ []) v) (h.each v)
-          ∙ append_assoc (row_of rows v) (timeline_of (take i kinds) v) (timeline_of (k ∷ []) v)
-          ∙ ap (λ l. row_of rows v ++ l) (sym (timeline-append (take i kinds) (k ∷ []) v) ∙ ap (λ l. timeline_of l v) (sym (take_more kinds i d below)));
-    }
-
--- the tokens of one extension more
-pub lines_more : (vars : ℕ) (es : List Extension) (i : ℕ) (d : Extension) (kinds : List Kind) (rows next : List (List Kind)) → i < length es → kinds ≡ (get_or es i d).tokens → AreLines vars (tokens_of (take i es)) rows → AreMore rows kinds next → AreLines vars (tokens_of (take (i + 1) es)) next
-lines_more vars es i d kinds rows next below is h more =
-    let e = get_or es i d in
-    let tokens : tokens_of (take (i + 1) es) ≡ tokens_of (take i es) ++ kinds = ap tokens_of (take_more es i d below) ∙ tokens-push (take i es) e ∙ ap (λ l. tokens_of (take i es) ++ l) (sym is) in
-    record {
-      size = more.size ∙ h.size;
-      each = λ v. more.each v ∙ ap (λ l. l ++ timeline_of kinds v) (h.each v) ∙ sym (timeline-append (tokens_of (take i es)) kinds v) ∙ ap (λ l. timeline_of l v) (sym tokens);
-    }
-
--- the tokens of all extensions
-pub lines_all : (vars : ℕ) (es : List Extension) (i : ℕ) (rows : List (List Kind)) → length es ≤ i → AreLines vars (tokens_of (take i es)) rows → AreLines vars (tokens_of es) rows
-lines_all vars es i rows past h = subst (λ l. AreLines vars (tokens_of l) rows) (take_all i es past) h

@@ -1,9 +1,9 @@
--- Which needs are served, by rows and claims.
-use Rattle.std.proofs.Common.{◌≡◌, ℕ, ◌+◌, ◌<◌, ◌≤◌, false, true, Bool, ◌&&◌, ◌||◌, nat_eq, List, [], ◌∷◌, length, take, get_or, Some, refl, sym, ap, ◌∙◌, subst, arith, inl, inr, length-append, cond}
+-- Which needs are served, by claims.
+use Rattle.std.proofs.Common.{◌≡◌, ℕ, zero, suc, ◌+◌, ◌<◌, ◌≤◌, false, true, Bool, ◌&&◌, ◌||◌, nat_eq, List, [], ◌∷◌, length, map, take, get_or, Some, refl, sym, ap, ◌∙◌, subst, arith, inl, inr, length-append, cond}
 use Rattle.std.proofs.lemmas.Bool.{cases_Bool, cases_lt, eqb-true, eq-eqb}
 use Rattle.std.proofs.lemmas.Grind.{common_steps}
-use Rattle.std.proofs.lemmas.List.{get_or_past, length-take}
-use Rattle.std.proofs.lemmas.Option.{slice_get-get_or, slice_get_within}
+use Rattle.std.proofs.lemmas.List.{length-take}
+use Rattle.std.proofs.lemmas.Option.{slice_get_within}
 use Rattle.std.specs.Prelude.{slice_get, ◌⊎◌, Contains, filter}
 use Rattle.std.specs.List.{list_any}
 use Rattle.std.specs.HashSet as bag
@@ -26,19 +26,19 @@ use Rattle.plan_laws.proofs.NeedLemmas.{need_found}
 use Rattle.plan_laws.proofs.ChainLemmas.{contained_at}
 use Rattle.hs_base.proofs.NeedLemmas.{filter_at}
 use Rattle.std.proofs.lemmas.List.Filters.{length-filter_more}
-use Rattle.plan_check.specs.Lines.{row_of, AreLines}
 use Rattle.plan_check.specs.Claimed.{is_claimed, is_for, AreClaims}
 use Rattle.plan_check.specs.Open.{IsOpen, IsOpenAt, first_looked, HasNoneOpen, IsFirstOpenOf, IsOpenFault}
 use Rattle.plan_check.specs.declared.claims.Claim.{Claim}
-use Rattle.plan_check.proofs.WithinLemmas.{supports-push}
-use Rattle.plan_check.proofs.SupportLemmas.{some_for, for_some, contains_from, token_in}
+use Rattle.plan_check.proofs.WithinLemmas.{AreInside, supports-push}
+use Rattle.plan_check.proofs.SupportLemmas.{some_for, for_some, contains_from}
+use Rattle.plan_check.proofs.LineLemmas.{below_vars}
 
-module _ {S : Type 0} (m : Mission) (es : List Extension) (e : Extension) (rows : List (List Kind)) (set : bag.HashSet Claim S) (lines : AreLines (length m.vars) (tokens_of (joined es e)) rows) (claims : AreClaims (supports_of (joined es e)) set) (base : KeepsNeeds m es) where
+module _ {S : Type 0} (m : Mission) (es : List Extension) (e : Extension) (set : bag.HashSet Claim S) (inside : AreInside m (joined es e)) (claims : AreClaims (supports_of (joined es e)) set) (base : KeepsNeeds m es) where
   abbrev pub all : List Extension
   all = joined es e
 
-  size_of : (v : ℕ) → length (row_of rows v) ≡ length (timeline_of (tokens_of all) v)
-  size_of v = ap length (lines.each v)
+  abbrev pub line : ℕ → List Kind
+  line v = timeline_of (tokens_of (joined es e)) v
 
   -- the timelines of the plan before the extension
   old_size : (v : ℕ) → length (timeline_of (tokens_of all) v) ≡ length (timeline_of (tokens_of es) v) + length (timeline_of e.tokens v)
@@ -61,7 +61,7 @@ module _ {S : Type 0} (m : Mission) (es : List Extension) (e : Extension) (rows 
   ]
 
   abbrev pub IsLooked : TokenRef → ℕ → Type 0
-  IsLooked t i = (t.sv.0 < length rows) × (first_looked (row_of rows t.sv.0) e.tokens t.sv.0 ≤ t.place) × IsOpenAt m set t.sv (row_of rows t.sv.0) t.place i
+  IsLooked t i = (t.sv.0 < length m.vars) × (first_looked (line t.sv.0) e.tokens t.sv.0 ≤ t.place) × IsOpenAt m set t.sv (line t.sv.0) t.place i
 
   -- a need of a token is served, or it is open and looked at
   pub served_or_open : (t : TokenRef) (i : ℕ) (n : Need) → need_at m all t i ≡ Some n → IsServed m all t i n ⊎ IsLooked t i
@@ -69,74 +69,68 @@ module _ {S : Type 0} (m : Mission) (es : List Extension) (e : Extension) (rows 
     | inl old ↦ inl (old_served t i n old is)
     | inr looked ↦ elim (cases_Bool (list_any (is_for t i) (supports_of all))) [
       | inl some ↦ inl (inl (some_for (supports_of all) t i some))
-      | inr none ↦ elim (cases_Bool (nat_eq (t.place + 1) (length (row_of rows t.sv.0)) && is_deferrable n)) [
+      | inr none ↦ elim (cases_Bool (nat_eq (t.place + 1) (length (line t.sv.0)) && is_deferrable n)) [
         | inl waits ↦
-            let last : t.place + 1 ≡ length (row_of rows t.sv.0) = eqb-true _ _ (grind (arith, common_steps, waits)) in
+            let last : t.place + 1 ≡ length (line t.sv.0) = eqb-true _ _ (grind (arith, common_steps, waits)) in
             let may : is_deferrable n ≡ true = grind (arith, common_steps, waits) in
-            inl (inr (may, omega (arith, last, size_of t.sv.0)))
+            inl (inr (may, omega (arith, last)))
         | inr not_waits ↦
             let found = need_found m all t i n is in
-            let token : slice_get (row_of rows t.sv.0) t.place ≡ Some found.0 = token_in (length m.vars) all rows t lines ∙ found.1 in
+            let token : slice_get (line t.sv.0) t.place ≡ Some found.0 = found.1 in
             inr (
-              below t found.0 token,
-              omega (arith, looked, size_of t.sv.0, old_size t.sv.0),
+              below_vars (length m.vars) (tokens_of all) t.sv.0 inside (let there = slice_get_within (line t.sv.0) t.place found.0 token in omega (arith, there)),
+              omega (arith, looked, old_size t.sv.0),
               record { kind = found.0; is_kind = token; unserved = record { need = n; is_need = found.2; unclaimed = claims t i ∙ none; not_waiting = not_waits } },
             )
       ]
     ]
   ]
-    where
-      below : (t : TokenRef) (k : Kind) → slice_get (row_of rows t.sv.0) t.place ≡ Some k → t.sv.0 < length rows
-      below t k there = elim (cases_lt t.sv.0 (length rows)) [
-        | inl in_rows ↦ in_rows
-        | inr past ↦ let none : slice_get [] t.place ≡ Some k = subst (λ (l : List Kind). slice_get l t.place ≡ Some k) (get_or_past rows t.sv.0 [] past) there in absurd (cc)
-      ]
 
   -- an open need is not served
-  pub open_unserved : (v : SvId) (p i : ℕ) → IsOpenAt m set v (row_of rows v.0) p i → IsUnserved m all (record { sv = v; place = p }) i
+  pub open_unserved : (v : SvId) (p i : ℕ) → IsOpenAt m set v (line v.0) p i → IsUnserved m all (record { sv = v; place = p }) i
   open_unserved v p i h = record { need = h.unserved.need; is_need = is; broken = not_served }
     where
       t : TokenRef
       t = record { sv = v; place = p }
 
       is : need_at m all (record { sv = v; place = p }) i ≡ Some h.unserved.need
-      is = ap (λ k. need_of m k i) (sym (token_in (length m.vars) all rows (record { sv = v; place = p }) lines) ∙ h.is_kind) ∙ h.unserved.is_need
+      is = ap (λ k. need_of m k i) (h.is_kind) ∙ h.unserved.is_need
 
       not_served : IsServed m all (record { sv = v; place = p }) i h.unserved.need → ⊥
       not_served (inl s) = absurd (let yes_is : true ≡ false = sym (for_some (supports_of all) (record { sv = v; place = p }) i s.0 s.1 s.2 s.3) ∙ sym (claims (record { sv = v; place = p }) i) ∙ h.unserved.unclaimed in cc)
       not_served (inr w) =
-          let last : p + 1 ≡ length (row_of rows v.0) = let at = w.1 in omega (arith, at, size_of v.0) in
-          let test : nat_eq (p + 1) (length (row_of rows v.0)) ≡ true = eq-eqb (p + 1) (length (row_of rows v.0)) last in
-          let both : (nat_eq (p + 1) (length (row_of rows v.0)) && is_deferrable h.unserved.need) ≡ true = rw (test, w.0) refl in
+          let last : p + 1 ≡ length (line v.0) = let at = w.1 in omega (arith, at) in
+          let test : nat_eq (p + 1) (length (line v.0)) ≡ true = eq-eqb (p + 1) (length (line v.0)) last in
+          let both : (nat_eq (p + 1) (length (line v.0)) && is_deferrable h.unserved.need) ≡ true = rw (test, w.0) refl in
           absurd (let contra : true ≡ false = sym both ∙ h.unserved.not_waiting in cc)
 
-  pub needs_kept : HasNoneOpen m set rows e.tokens → KeepsNeeds m all
+  pub needs_kept : HasNoneOpen m set (tokens_of all) e.tokens → KeepsNeeds m all
   needs_kept h = record { each = λ t i n is. elim (served_or_open t i n is) [ inl served ↦ served | inr left ↦ absurd (h t.sv.0 t.place i left.0 left.1 left.2) ] }
 
   looked_of : (t : TokenRef) (i : ℕ) → IsUnserved m all t i → IsLooked t i
   looked_of t i h = elim (served_or_open t i h.need h.is_need) [ inl served ↦ absurd (h.broken served) | inr left ↦ left ]
 
-  pub first_unserved : (v : SvId) (p i : ℕ) → IsFirstOpenOf m set rows e.tokens v p i → IsFirstUnserved m all (record { sv = v; place = p }) i
+  pub first_unserved : (v : SvId) (p i : ℕ) → IsFirstOpenOf m set (tokens_of all) e.tokens v p i → IsFirstUnserved m all (record { sv = v; place = p }) i
   first_unserved v p i h = record { here = open_unserved v p i h.here; first = none_before }
     where
       none_before : (u : TokenRef) (j : ℕ) → IsUnserved m all u j → IsNeedBefore u j (record { sv = v; place = p }) i → ⊥
-      none_before u j is (inl less) = let o = looked_of u j is in h.rows_before u.sv.0 u.place j less o.1 o.2
+      none_before u j is (inl less) = let o = looked_of u j is in h.lines_before u.sv.0 u.place j less o.1 o.2
       none_before u j is (inr same) = let o = looked_of u j is in by_place same.1
         where
-          row_is : row_of rows u.sv.0 ≡ row_of rows v.0
-          row_is = ap (row_of rows) same.0
+          line_is : line u.sv.0 ≡ line v.0
+          line_is = ap (line) same.0
 
-          first_is : first_looked (row_of rows v.0) e.tokens v.0 ≤ u.place
-          first_is = subst (λ (w : ℕ). first_looked (row_of rows w) e.tokens w ≤ u.place) same.0 (looked_of u j is).1
+          first_is : first_looked (line v.0) e.tokens v.0 ≤ u.place
+          first_is = subst (λ (w : ℕ). first_looked (line w) e.tokens w ≤ u.place) same.0 (looked_of u j is).1
 
-          open_is : IsOpenAt m set v (row_of rows v.0) u.place j
-          open_is = subst (λ (w : ℕ). IsOpenAt m set (record { 0 = w }) (row_of rows w) u.place j) same.0 (looked_of u j is).2
+          open_is : IsOpenAt m set v (line v.0) u.place j
+          open_is = subst (λ (w : ℕ). IsOpenAt m set (record { 0 = w }) (line w) u.place j) same.0 (looked_of u j is).2
 
           by_place : (u.place < p) ⊎ ((u.place ≡ p) × (j < i)) → ⊥
           by_place (inl less) = h.places_before u.place j first_is less open_is
-          by_place (inr at) = h.needs_before j at.1 (subst (λ (x : ℕ). IsOpenAt m set v (row_of rows v.0) x j) at.0 open_is)
+          by_place (inr at) = h.needs_before j at.1 (subst (λ (x : ℕ). IsOpenAt m set v (line v.0) x j) at.0 open_is)
 
-  pub open_fault : (f : Fault) → KeepsBefore m es e needs_rule → IsOpenFault m set rows e.tokens f → IsFault m es e f
+  pub open_fault : (f : Fault) → KeepsBefore m es e needs_rule → IsOpenFault m set (tokens_of all) e.tokens f → IsFault m es e f
   open_fault (Unsupported v p i) before h = (before, first_unserved v p i h)
   open_fault (Base g c) before h = absurd h
   open_fault (OverLimit p t) before h = absurd h
@@ -198,18 +192,24 @@ pub none_past : {S : Type 0} (needs : List Need) (set : bag.HashSet Claim S) (t 
 none_past needs set t last i past o = let there = slice_get_within needs i o.need o.is_need in omega (arith, there, past)
 
 -- a need of the token at a place
-module _ {S : Type 0} (m : Mission) (set : bag.HashSet Claim S) (v : SvId) (row : List Kind) (place : ℕ) (d : Kind) (below : place < length row) where
+module _ {S : Type 0} (m : Mission) (set : bag.HashSet Claim S) (v : SvId) (row : List Kind) (place : ℕ) (k : Kind) (here : slice_get row place ≡ Some k) where
   abbrev pub token : TokenRef
   token = record { sv = v; place = place }
 
   abbrev pub is_last : Bool
   is_last = nat_eq (place + 1) (length row)
 
-  pub open_at : (i : ℕ) → IsOpen (needs_of m (get_or row place d)) set token is_last i → IsOpenAt m set v row place i
-  open_at i o = record { kind = get_or row place d; is_kind = slice_get-get_or row place d below; unserved = o }
+  pub open_at : (i : ℕ) → IsOpen (needs_of m k) set token is_last i → IsOpenAt m set v row place i
+  open_at i o = record { kind = k; is_kind = here; unserved = o }
 
-  pub at_open : (i : ℕ) → IsOpenAt m set v row place i → IsOpen (needs_of m (get_or row place d)) set token is_last i
+  pub at_open : (i : ℕ) → IsOpenAt m set v row place i → IsOpen (needs_of m k) set token is_last i
   at_open i o =
-      let same : Some o.kind ≡ Some (get_or row place d) = sym o.is_kind ∙ slice_get-get_or row place d below in
-      let is : o.kind ≡ get_or row place d = cc in
-      subst (λ (k : Kind). IsOpen (needs_of m k) set token is_last i) is o.unserved
+      let same : Some o.kind ≡ Some k = sym o.is_kind ∙ here in
+      let is : o.kind ≡ k = cc in
+      subst (λ (l : Kind). IsOpen (needs_of m l) set token is_last i) is o.unserved
+
+-- an element of what a list is made into
+pub slice_get-mapped : {X Y : Type 0} (f : X → Y) (xs : List X) (i : ℕ) (x : X) → slice_get xs i ≡ Some x → slice_get (map f xs) i ≡ Some (f x)
+slice_get-mapped f [] i x is = absurd (cc)
+slice_get-mapped f (y ∷ xs) zero x is = let same : y ≡ x = cc in ap (λ z. Some (f z)) same
+slice_get-mapped f (y ∷ xs) (suc i) x is = slice_get-mapped f xs i x is

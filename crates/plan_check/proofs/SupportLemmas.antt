@@ -1,9 +1,9 @@
 -- Which supports of an extension are right.
 use Rattle.std.proofs.Common.{◌≡◌, ℕ, zero, suc, ◌+◌, ◌*◌, ◌<◌, ◌≤◌, false, true, Bool, ◌||◌, not, nat_eq, List, [], ◌∷◌, ◌++◌, length, take, get_or, Some, refl, sym, ap, ◌∙◌, subst, arith, inl, inr, cond, length-append}
-use Rattle.std.proofs.lemmas.Bool.{cases_Bool, cases_lt, eqb-true, eq-eqb}
+use Rattle.std.proofs.lemmas.Bool.{cases_Bool, eqb-true, eq-eqb}
 use Rattle.std.proofs.lemmas.Bool.Decides.{nat_tests}
 use Rattle.std.proofs.lemmas.Grind.{common_steps}
-use Rattle.std.proofs.lemmas.List.{take_more, get_or_past}
+use Rattle.std.proofs.lemmas.List.{take_more}
 use Rattle.std.proofs.lemmas.Option.{slice_get-get_or, slice_get_within, get_or_from_slice_get}
 use Rattle.std.specs.Prelude.{slice_get, ◌⊎◌, Contains, filter}
 use Rattle.std.specs.List.{AllByRecursion, list_any}
@@ -14,46 +14,25 @@ use Rattle.hs_base.specs.declared.plan.Support.{Support}
 use Rattle.hs_base.specs.declared.plan.Extension.{Extension}
 use Rattle.hs_base.specs.declared.mission.Mission.{Mission}
 use Rattle.hs_base.specs.Walks.{EachAfter}
-use Rattle.hs_base.specs.Points.{tokens_of, token_at}
-use Rattle.hs_base.specs.Needs.{same_kind, needs_of, need_of, need_at}
+use Rattle.hs_base.specs.Points.{tokens_of, timeline_of}
+use Rattle.hs_base.specs.Needs.{same_kind, needs_of}
 use Rattle.hs_base.specs.Checked.{joined, supports_of, IsServing, IsSameNeed, IsNeedBefore, KeepsSupportAt, KeepsRules, KeepsLimits}
 use Rattle.hs_base.specs.Missions.{IsMission}
 use Rattle.plan_laws.proofs.NeedLemmas.{need_found}
 use Rattle.base_laws.proofs.PointLemmas.{tokens-push}
-use Rattle.plan_check.proofs.WithinLemmas.{supports-push, few_tokens}
+use Rattle.plan_check.proofs.WithinLemmas.{AreInside, supports-push, few_tokens}
 use Rattle.base_laws.proofs.ListLemmas.{each_weaker, each_both, each_at, EachAfter-push, slice_get-take, each_after_at}
 use Rattle.plan_laws.proofs.ChainLemmas.{contained_at}
-use Rattle.plan_check.specs.Lines.{row_of, AreLines}
 use Rattle.plan_check.specs.Claimed.{is_for}
 use Rattle.plan_check.specs.Serving.{IsServingIn, IsBehindLast}
+use Rattle.plan_check.proofs.LineLemmas.{below_vars}
 
--- a token by its row
-pub token_in : (vars : ℕ) (es : List Extension) (rows : List (List Kind)) (t : TokenRef) → AreLines vars (tokens_of es) rows → slice_get (row_of rows t.sv.0) t.place ≡ token_at es t
-token_in vars es rows t lines = ap (λ l. slice_get l t.place) (lines.each t.sv.0)
+-- a right support by the tokens of the plan
+pub serves : (m : Mission) (es : List Extension) (s : Support) → IsServingIn m (tokens_of es) s → IsServing m es s
+serves m es s h = record { need = h.need; has_need = h.has_need; kind = h.kind; has_token = h.has_token; choice = h.choice; serves = h.serves }
 
-pub need_in : (m : Mission) (vars : ℕ) (es : List Extension) (rows : List (List Kind)) (t : TokenRef) (i : ℕ) → AreLines vars (tokens_of es) rows → need_of m (slice_get (row_of rows t.sv.0) t.place) i ≡ need_at m es t i
-need_in m vars es rows t i lines = ap (λ k. need_of m k i) (token_in vars es rows t lines)
-
-module _ (m : Mission) (vars : ℕ) (es : List Extension) (rows : List (List Kind)) (lines : AreLines vars (tokens_of es) rows) where
-  pub serves : (s : Support) → IsServingIn m rows s → IsServing m es s
-  serves s h = record {
-    need = h.need;
-    has_need = sym (need_in m vars es rows s.token s.need lines) ∙ h.has_need;
-    kind = h.kind;
-    has_token = sym (token_in vars es rows s.by lines) ∙ h.has_token;
-    choice = h.choice;
-    serves = h.serves;
-  }
-
-  pub serves_in : (s : Support) → IsServing m es s → IsServingIn m rows s
-  serves_in s h = record {
-    need = h.need;
-    has_need = need_in m vars es rows s.token s.need lines ∙ h.has_need;
-    kind = h.kind;
-    has_token = token_in vars es rows s.by lines ∙ h.has_token;
-    choice = h.choice;
-    serves = h.serves;
-  }
+pub serves_in : (m : Mission) (es : List Extension) (s : Support) → IsServing m es s → IsServingIn m (tokens_of es) s
+serves_in m es s h = record { need = h.need; has_need = h.has_need; kind = h.kind; has_token = h.has_token; choice = h.choice; serves = h.serves }
 
 -- the order of needs
 pub before_chain : (a b c : Support) → IsNeedBefore a.token a.need b.token b.need → IsNeedBefore b.token b.need c.token c.need → IsNeedBefore a.token a.need c.token c.need
@@ -186,25 +165,25 @@ or_true true b h = inl refl
 or_true false b h = inr h
 
 -- the next support of the extension
-module _ (m : Mission) (es : List Extension) (e : Extension) (rows : List (List Kind)) (lines : AreLines (length m.vars) (tokens_of (joined es e)) rows) (supports : List Support) (i : ℕ) (d : Support) (below : i < length supports) (kept : EachAfter (KeepsSupportAt m es e) [] (take i supports)) where
+module _ (m : Mission) (es : List Extension) (e : Extension) (supports : List Support) (i : ℕ) (d : Support) (below : i < length supports) (kept : EachAfter (KeepsSupportAt m es e) [] (take i supports)) where
   abbrev pub next : Support
   next = get_or supports i d
 
   abbrev pub earlier : List Support
   earlier = supports_of es ++ take i supports
 
-  pub right_of : KeepsSupportAt m es e (take i supports) next → IsBehindLast supports i × ((s : Support) → slice_get supports i ≡ Some s → IsServingIn m rows s)
+  pub right_of : KeepsSupportAt m es e (take i supports) next → IsBehindLast supports i × ((s : Support) → slice_get supports i ≡ Some s → IsServingIn m (tokens_of (joined es e)) s)
   right_of h = (
     behind_last m es e supports i d below h.rising,
-    λ s at. let same : get_or supports i d ≡ s = get_or_from_slice_get supports i s d at in subst (IsServingIn m rows) same (serves_in m (length m.vars) (joined es e) rows lines next h.serving),
+    λ s at. let same : get_or supports i d ≡ s = get_or_from_slice_get supports i s d at in subst (IsServingIn m (tokens_of (joined es e))) same (serves_in m (joined es e) next h.serving),
   )
 
   -- it is new where no earlier one is for the same need
-  pub kept_next : IsBehindLast supports i → IsServingIn m rows next → list_any (is_for next.token next.need) earlier ≡ false → KeepsSupportAt m es e (take i supports) next
+  pub kept_next : IsBehindLast supports i → IsServingIn m (tokens_of (joined es e)) next → list_any (is_for next.token next.need) earlier ≡ false → KeepsSupportAt m es e (take i supports) next
   kept_next behind serving none =
       let parts = or_false (list_any (is_for next.token next.need) (supports_of es)) (list_any (is_for next.token next.need) (take i supports)) (sym (any-append (is_for next.token next.need) (supports_of es) (take i supports)) ∙ none) in
       record {
-        serving = serves m (length m.vars) (joined es e) rows lines next serving;
+        serving = serves m (joined es e) next serving;
         new = none_for (supports_of es) next parts.0;
         rising = rising m es e supports i d below kept behind;
       }
@@ -228,11 +207,10 @@ few_filter : {X : Type 0} (p : X → Bool) (xs : List X) → length (filter p xs
 few_filter p [] = omega arith
 few_filter p (x ∷ xs) = elim (cases_Bool (p x)) [ inl passes ↦ rw passes (let less = few_filter p xs in omega (arith, less)) | inr fails ↦ rw fails (let less = few_filter p xs in omega (arith, less)) ]
 
-pub reach_of : (m : Mission) (es : List Extension) (e : Extension) (rows : List (List Kind)) (s : Support) → IsMission m → EachAfter (KeepsRules m) [] es → KeepsLimits es e → AreLines (length m.vars) (tokens_of (joined es e)) rows → IsServing m (joined es e) s → IsInReach s
-reach_of m es e rows s h rules limits lines serving =
+pub reach_of : (m : Mission) (es : List Extension) (e : Extension) (s : Support) → IsMission m → EachAfter (KeepsRules m) [] es → KeepsLimits es e → AreInside m (joined es e) → IsServing m (joined es e) s → IsInReach s
+reach_of m es e s h rules limits inside serving =
     let found = need_found m (joined es e) s.token s.need serving.need serving.has_need in
-    let row = token_in (length m.vars) (joined es e) rows s.token lines ∙ found.1 in
-    let inside = slice_get_within (row_of rows s.token.sv.0) s.token.place found.0 row in
+    let here = slice_get_within (timeline_of (tokens_of (joined es e)) s.token.sv.0) s.token.place found.0 found.1 in
     let number = slice_get_within (needs_of m found.0) s.need serving.need found.2 in
     let few = few_filter (λ (n : Need). same_kind n.of found.0) m.needs in
     let needs = h.few_needs in
@@ -241,11 +219,8 @@ reach_of m es e rows s h rules limits lines serving =
     let all = few_filter (λ (k : Kind). nat_eq k.sv.0 s.token.sv.0) (tokens_of (joined es e)) in
     let vars = h.few_vars in
     record {
-      variable = elim (cases_lt s.token.sv.0 (length rows)) [
-        | inl in_rows ↦ omega (arith, in_rows, vars, lines.size)
-        | inr past ↦ absurd (let none = ap length (get_or_past rows s.token.sv.0 [] past) in omega (arith, inside, none))
-      ];
-      place = omega (arith, inside, ap length (lines.each s.token.sv.0), all, tokens, new, ap length (tokens-push es e), length-append (tokens_of es) e.tokens);
+      variable = let below = below_vars (length m.vars) (tokens_of (joined es e)) s.token.sv.0 inside (omega (arith, here)) in omega (arith, below, vars);
+      place = omega (arith, here, all, tokens, new, ap length (tokens-push es e), length-append (tokens_of es) e.tokens);
       need = omega (arith, number, few, needs);
     }
 
@@ -256,9 +231,9 @@ rank_below s h = let a = h.variable in let b = h.place in let c = h.need in omeg
 abbrev pub AreCounted : List Support → ℕ → Type 0
 AreCounted supports i = (j : ℕ) (s : Support) → suc j ≡ i → slice_get supports j ≡ Some s → j ≤ rank s
 
-module _ (m : Mission) (es : List Extension) (e : Extension) (rows : List (List Kind)) (lines : AreLines (length m.vars) (tokens_of (joined es e)) rows) (supports : List Support) (i : ℕ) (d : Support) (below : i < length supports) (kept : EachAfter (KeepsSupportAt m es e) [] (take i supports)) (h : IsMission m) (rules : EachAfter (KeepsRules m) [] es) (limits : KeepsLimits es e) where
+module _ (m : Mission) (es : List Extension) (e : Extension) (supports : List Support) (i : ℕ) (d : Support) (below : i < length supports) (kept : EachAfter (KeepsSupportAt m es e) [] (take i supports)) (h : IsMission m) (rules : EachAfter (KeepsRules m) [] es) (limits : KeepsLimits es e) (inside : AreInside m (joined es e)) where
   reach_at : (j : ℕ) (s : Support) → j < i → slice_get supports j ≡ Some s → IsInReach s
-  reach_at j s less at = reach_of m es e rows s h rules limits lines (each_after_at (KeepsSupportAt m es e) [] (take i supports) j s kept (slice_get-take supports j i less ∙ at)).serving
+  reach_at j s less at = reach_of m es e s h rules limits inside (each_after_at (KeepsSupportAt m es e) [] (take i supports) j s kept (slice_get-take supports j i less ∙ at)).serving
 
   -- so the number of a support fits a field
   pub number_fits : AreCounted supports i → i < 4294967296
@@ -286,7 +261,7 @@ module _ (m : Mission) (es : List Extension) (e : Extension) (rows : List (List 
           let found : Some n ≡ Some s = sym b.3 ∙ ap (slice_get supports) place ∙ at in
           let same : n ≡ s = cc in
           let next : get_or supports i d ≡ n = get_or_from_slice_get supports i n d (ap (slice_get supports) (sym at_more) ∙ b.3) in
-          let reach_n = subst IsInReach next (reach_of m es e rows (get_or supports i d) h rules limits lines serving) in
+          let reach_n = subst IsInReach next (reach_of m es e (get_or supports i d) h rules limits inside serving) in
           let reach_r = reach_at k r (omega (arith, at_more)) b.2 in
           let rises = rank_rises r n reach_r.place reach_r.need reach_n.place reach_n.need b.4 in
           let least = c k r at_more b.2 in

@@ -1,6 +1,8 @@
 -- What a plan that keeps its rules has.
-use Rattle.std.proofs.Common.{◌≡◌, ◌*◌, ◌<◌, ◌≤◌, pos, List, [], ◌∷◌, ◌++◌, length, refl, sym, ap, ◌∙◌, subst, arith, append-nil, length-append}
+use Rattle.std.proofs.Common.{◌≡◌, ℕ, ◌*◌, ◌<◌, ◌≤◌, pos, List, [], ◌∷◌, ◌++◌, length, get_or, refl, sym, ap, ◌∙◌, subst, arith, append-nil, length-append}
 use Rattle.std.proofs.lemmas.Int.{ints}
+use Rattle.std.proofs.lemmas.Option.{slice_get_within, slice_get-get_or}
+use Rattle.std.specs.Prelude.{◌≤ℤ◌}
 use Rattle.std.proofs.lemmas.Grind.{flat_map-append}
 use Rattle.std.specs.List.{AllByRecursion}
 use Rattle.hs_base.specs.declared.mission.Kind.{Kind}
@@ -11,12 +13,12 @@ use Rattle.hs_base.specs.Walks.{EachAfter}
 use Rattle.hs_base.specs.Ranges.{whole, InRange}
 use Rattle.hs_base.specs.Missions.{IsKindOf, IsVar, IsMission}
 use Rattle.hs_base.specs.Points.{count, tokens_of, timeline_of}
-use Rattle.hs_base.specs.Checked.{fixed_of, supports_of, KeepsOrderAt, KeepsFixedAt, KeepsRules, KeepsNeeds, Checked}
+use Rattle.hs_base.specs.Checked.{joined, fixed_of, supports_of, KeepsOrderAt, KeepsOrder, KeepsFixedAt, KeepsRules, KeepsNeeds, Checked}
 use Rattle.hs_base.proofs.RuleLemmas.{base_kept, limits_kept, order_kept, fixed_kept, needs_kept}
 use Rattle.base_laws.proofs.ListLemmas.{snoc_induction, each_at, each_both, each_weaker}
 use Rattle.base_laws.proofs.PointLemmas.{tokens-push, count-push, count_is}
 use Rattle.plan_laws.proofs.ChainLemmas.{value_there}
-use Rattle.plan_laws.proofs.InsideLemmas.{each_from}
+use Rattle.plan_laws.proofs.InsideLemmas.{each_from, tokens_inside}
 use Rattle.token_net.specs.Conditions.{IsWithin}
 
 pub fixed-push : (before : List Extension) (e : Extension) → fixed_of (before ++ e ∷ []) ≡ fixed_of before ++ e.fixed
@@ -115,6 +117,22 @@ module _ (m : Mission) (h : IsMission m) where
   -- all needs of the plan are served or wait
   pub all_needs : (es : List Extension) → EachAfter (KeepsRules m) [] es → KeepsNeeds m es
   all_needs es r = snoc_induction AllNeeds (KeepsRules m) (λ before e k old. needs_kept k) [] es (record { each = λ t i n is. absurd (cc) }) r
+
+-- the tokens of a plan are of the mission's variables
+abbrev pub AreInside : Mission → List Extension → Type 0
+AreInside m es = AllByRecursion (λ (k : Kind). k.sv.0 < length m.vars) (tokens_of es)
+
+-- also with an extension whose tokens are in order
+pub inside_next : (m : Mission) (es : List Extension) (e : Extension) → EachAfter (KeepsRules m) [] es → KeepsOrder m es e → AreInside m (joined es e)
+inside_next m es e rules kept =
+    let P : Kind → Type 0 = λ k. k.sv.0 < length m.vars in
+    subst (AllByRecursion P) (sym (tokens-push es e))
+    (each_both P (tokens_of es) e.tokens (tokens_inside m es rules)
+    (each_from (KeepsOrderAt m es) P (λ new k o. slice_get_within m.vars k.sv.0 o.var o.is_var) [] e.tokens kept.each))
+
+-- the fixed times of an extension are times
+pub times_of_next : (m : Mission) (es : List Extension) (e : Extension) (k : ℕ) (d : Time) → KeepsRules m es e → k < length e.fixed → pos 0 ≤ℤ (get_or e.fixed k d).at
+times_of_next m es e k d kept below = each_at (λ (t : Time). pos 0 ≤ℤ t.at) e.fixed k (get_or e.fixed k d) (each_from (KeepsFixedAt es e) (λ (t : Time). pos 0 ≤ℤ t.at) (λ b t f. f.at.0) [] e.fixed (fixed_kept kept).each) (slice_get-get_or e.fixed k d below)
 
 -- the plan without extension is checked
 pub none_checked : (m : Mission) → IsMission m → Checked m []

@@ -8,3 +8,4 @@ pub mod Serving
 pub mod Open
 pub mod Meeting
 pub mod Scheduling
+pub mod Walked

@@ -1,4 +1,4 @@
--- Needs that no support serves and that may not wait, by the rows of the timelines.
+-- Needs that no support serves and that may not wait, by the tokens.
 use Rattle.std.specs.Prelude.{◌≡◌, ℕ, ◌+◌, ◌-◌, ◌<◌, ◌≤◌, Bool, false, ◌&&◌, nat_eq, List, length, slice_get, Option, Some, None}
 use Rattle.std.specs.HashSet as bag
 use Rattle.hs_base.specs.declared.ids.SvId.{SvId}
@@ -10,7 +10,6 @@ use Rattle.hs_base.specs.declared.fault.Fault.{Fault}
 use Rattle.hs_base.specs.declared.fault.Fault.TheVariants.{Unsupported}
 use Rattle.hs_base.specs.Points.{timeline_of}
 use Rattle.hs_base.specs.Needs.{needs_of, is_deferrable}
-use Rattle.plan_check.specs.Lines.{row_of}
 use Rattle.plan_check.specs.Claimed.{is_claimed}
 use Rattle.plan_check.specs.declared.claims.Claim.{Claim}
 use Rattle.plan_check.specs.declared.needs.OpenNeed.{OpenNeed}
@@ -42,18 +41,17 @@ IsFirstOpenIn m set sv row first (Some o) = (first ≤ o.place) × IsOpenAt m se
 abbrev pub first_looked : List Kind → List Kind → ℕ → ℕ
 first_looked row new v = length row - length (timeline_of new v) - 1
 
--- no looked-at need is open
-abbrev pub HasNoneOpen : {S : Type 0} → Mission → bag.HashSet Claim S → List (List Kind) → List Kind → Type 0
-HasNoneOpen m set rows new = (v p i : ℕ) → v < length rows → first_looked (row_of rows v) new v ≤ p → IsOpenAt m set (record { 0 = v }) (row_of rows v) p i → ⊥
+-- no looked-at need of so many variables is open
+abbrev pub HasNoneOpen : {S : Type 0} → Mission → bag.HashSet Claim S → List Kind → List Kind → Type 0
+HasNoneOpen m set tokens new = (v p i : ℕ) → v < length m.vars → first_looked (timeline_of tokens v) new v ≤ p → IsOpenAt m set (record { 0 = v }) (timeline_of tokens v) p i → ⊥
 
 -- the need is open, and no looked-at one before it is
-pub record IsFirstOpenOf {S : Type 0} (m : Mission) (set : bag.HashSet Claim S) (rows : List (List Kind)) (new : List Kind) (v : SvId) (place i : ℕ) : Type 0 where
-  pub below : v.0 < length rows
-  pub here : IsOpenAt m set v (row_of rows v.0) place i
-  pub rows_before : (w p j : ℕ) → w < v.0 → first_looked (row_of rows w) new w ≤ p → IsOpenAt m set (record { 0 = w }) (row_of rows w) p j → ⊥
-  pub places_before : (p j : ℕ) → first_looked (row_of rows v.0) new v.0 ≤ p → p < place → IsOpenAt m set v (row_of rows v.0) p j → ⊥
-  pub needs_before : (j : ℕ) → j < i → IsOpenAt m set v (row_of rows v.0) place j → ⊥
+pub record IsFirstOpenOf {S : Type 0} (m : Mission) (set : bag.HashSet Claim S) (tokens : List Kind) (new : List Kind) (v : SvId) (place i : ℕ) : Type 0 where
+  pub here : IsOpenAt m set v (timeline_of tokens v.0) place i
+  pub lines_before : (w p j : ℕ) → w < v.0 → first_looked (timeline_of tokens w) new w ≤ p → IsOpenAt m set (record { 0 = w }) (timeline_of tokens w) p j → ⊥
+  pub places_before : (p j : ℕ) → first_looked (timeline_of tokens v.0) new v.0 ≤ p → p < place → IsOpenAt m set v (timeline_of tokens v.0) p j → ⊥
+  pub needs_before : (j : ℕ) → j < i → IsOpenAt m set v (timeline_of tokens v.0) place j → ⊥
 
-abbrev pub IsOpenFault : {S : Type 0} → Mission → bag.HashSet Claim S → List (List Kind) → List Kind → Fault → Type 0
-IsOpenFault m set rows new (Unsupported v place i) = IsFirstOpenOf m set rows new v place i
-IsOpenFault m set rows new _ = ⊥
+abbrev pub IsOpenFault : {S : Type 0} → Mission → bag.HashSet Claim S → List Kind → List Kind → Fault → Type 0
+IsOpenFault m set tokens new (Unsupported v place i) = IsFirstOpenOf m set tokens new v place i
+IsOpenFault m set tokens new _ = ⊥

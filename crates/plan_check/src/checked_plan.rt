@@ -2,9 +2,11 @@ ghost use Rattle.std.specs.Prelude.{◌≡◌, ◌≢◌, [], IfOk, List};
 ghost use Rattle.hs_base.specs.Missions.{IsMission};
 ghost use Rattle.hs_base.specs.Checked.{Checked, joined};
 ghost use Rattle.hs_base.specs.declared.plan.Extension.{Extension};
+ghost use Rattle.plan_index.specs.Contents.{contents_of};
 ghost use Rattle.plan_check.specs.Planned.{Joins};
 
 use hs_base::{Copies, Extension, List, Memory, Mission, Plan};
+use plan_index::PlanIndex;
 use std::alloc::Global;
 use std::marker::Model;
 
@@ -13,17 +15,18 @@ use std::marker::Model;
 pub struct CheckedPlan {
     mission: Mission,
     plan: Plan,
+    index: PlanIndex,
 }
 
 impl Model for CheckedPlan {
-    ghost use Rattle.hs_base.specs.Checked.{Checked};
     ghost use Rattle.plan_check.specs.Planned.{Planned};
+    ghost use Rattle.plan_check.specs.Walked.{IsIndexed};
 
     ghost Value = { Planned };
 
     ghost view = { λ c. record { mission = c.mission; plan = c.plan } };
 
-    ghost invariant = { λ c. Checked c.mission c.plan.extensions };
+    ghost invariant = { λ c. IsIndexed c.mission c.plan.extensions c.index };
 }
 
 impl CheckedPlan {
@@ -33,12 +36,11 @@ impl CheckedPlan {
         ensures mission { IfOk result (λ c. c.mission ≡ mission) }
         ensures plan { IfOk result (λ c. c.plan.extensions ≡ []) }
     {
-        Ok(CheckedPlan {
-            mission,
-            plan: Plan {
-                extensions: List::new(alloc),
-            },
-        })
+        let index = PlanIndex::new(alloc)?;
+        let plan = Plan {
+            extensions: List::new(alloc),
+        };
+        Ok(CheckedPlan::of(mission, plan, index))
     }
 
     /// The plan with a further extension that keeps the rules: what is known isn't checked again.
@@ -48,7 +50,8 @@ impl CheckedPlan {
     {
         let mut plan = self.plan.copy(alloc)?;
         plan.extensions.push(extension)?;
-        Ok(CheckedPlan::of(self.mission.copy(alloc)?, plan))
+        let index = PlanIndex::of(alloc, plan.extensions.as_slice())?;
+        Ok(CheckedPlan::of(self.mission.copy(alloc)?, plan, index))
     }
 
     /// The last extension of a plan that has one; the others are let go.
@@ -61,13 +64,28 @@ impl CheckedPlan {
         extensions.swap_remove(last)
     }
 
-    /// A checked plan for a mission.
-    pub(crate) fn of(mission: Mission, plan: Plan) -> CheckedPlan
-        requires { Checked mission plan.extensions }
+    /// A checked plan for a mission, with its index.
+    pub(crate) fn of(mission: Mission, plan: Plan, index: PlanIndex) -> CheckedPlan
+        requires checked { Checked mission plan.extensions }
+        requires index { index ≡ contents_of plan.extensions }
         ensures mission { result.mission ≡ mission }
         ensures plan { result.plan ≡ plan }
     {
-        CheckedPlan { mission, plan }
+        CheckedPlan {
+            mission,
+            plan,
+            index,
+        }
+    }
+
+    /// The mission, the plan and its index.
+    pub(crate) fn into_parts(self) -> (Mission, Plan, PlanIndex)
+        ensures mission { result.0 ≡ self.mission }
+        ensures plan { result.1 ≡ self.plan }
+        ensures index { result.2 ≡ contents_of self.plan.extensions }
+        ensures checked { Checked self.mission self.plan.extensions }
+    {
+        (self.mission, self.plan, self.index)
     }
 
     /// The mission; it takes no memory.
@@ -85,13 +103,19 @@ impl CheckedPlan {
     {
         &self.plan
     }
+
+    /// The index of the plan; it takes no memory.
+    pub fn index(&self) -> &PlanIndex
+        ensures { result.now ≡ contents_of self.now.plan.extensions }
+    {
+        &self.index
+    }
 }
 
 impl Copies for CheckedPlan {
     fn copy(&self, alloc: Global) -> Result<CheckedPlan, Memory> {
-        Ok(CheckedPlan {
-            mission: self.mission.copy(alloc)?,
-            plan: self.plan.copy(alloc)?,
-        })
+        let plan = self.plan.copy(alloc)?;
+        let index = PlanIndex::of(alloc, plan.extensions.as_slice())?;
+        Ok(CheckedPlan::of(self.mission.copy(alloc)?, plan, index))
     }
 }

@@ -1,22 +1,21 @@
-ghost use Rattle.std.specs.Prelude.{◌↔◌, length, slice_get, IsTrue, OnOk, IfErr};
+ghost use Rattle.std.specs.Prelude.{◌≡◌, ◌↔◌, slice_get, IsTrue, OnOk, IfErr};
 ghost use Rattle.hs_base.specs.Points.{tokens_of};
 ghost use Rattle.hs_base.specs.Missions.{IsMission};
 ghost use Rattle.hs_base.specs.Checked.{joined, KeepsGoals, goals, KeepsBefore};
 ghost use Rattle.hs_base.specs.Faults.{IsFault};
-ghost use Rattle.plan_check.specs.Lines.{AreLines};
 ghost use Rattle.plan_check.specs.Meeting.{IsMetIn};
 
-use crate::timelines::Timelines;
 use hs_base::{Extension, Fault, Goal, Mission, Plan, TokenRef};
+use plan_index::PlanIndex;
 
 /// Whether a goal's entry is a token of its kind.
-fn is_met(lines: &Timelines, goal: &Goal, entries: &[TokenRef], i: usize) -> bool
-    ensures { IsTrue result ↔ IsMetIn lines.now.rows.items goal.now (slice_get entries.now i) }
+fn is_met(index: &PlanIndex, goal: &Goal, entries: &[TokenRef], i: usize) -> bool
+    ensures { IsTrue result ↔ IsMetIn index.now.tokens goal.now (slice_get entries.now i) }
 {
     let Some(token) = entries.get(i) else {
         return false;
     };
-    match lines.kind(*token) {
+    match index.token(*token) {
         Some(kind) => kind.is(goal.kind),
         None => false,
     }
@@ -26,12 +25,12 @@ fn is_met(lines: &Timelines, goal: &Goal, entries: &[TokenRef], i: usize) -> boo
 pub(crate) fn check_goals(
     mission: &Mission,
     plan: &Plan,
-    lines: &Timelines,
+    index: &PlanIndex,
     extension: &Extension,
 ) -> Result<(), Fault>
     requires mission { IsMission mission.now }
     requires before { KeepsBefore mission.now plan.now.extensions extension.now goals }
-    requires lines { AreLines (length mission.now.vars) (tokens_of (joined plan.now.extensions extension.now)) lines.now.rows.items }
+    requires tokens { index.now.tokens ≡ tokens_of (joined plan.now.extensions extension.now) }
     ensures kept { OnOk result (KeepsGoals mission.now plan.now.extensions extension.now) }
     ensures fault { IfErr result (IsFault mission.now plan.now.extensions extension.now) }
 {
@@ -39,7 +38,7 @@ pub(crate) fn check_goals(
     let goals = horizon.goals.as_slice();
     let entries = extension.goals.as_slice();
     for (i, goal) in goals.iter().enumerate() {
-        if !is_met(lines, goal, entries, i) {
+        if !is_met(index, goal, entries, i) {
             return Err(Fault::Goal { number: i as u32 });
         }
     }

@@ -2,6 +2,7 @@
 #![tactic(auto)]
 
 mod checked_plan;
+mod checker;
 mod checking;
 mod claims;
 mod filter;
@@ -11,12 +12,15 @@ mod laws;
 mod limits;
 mod needs;
 mod order;
+mod rules;
+mod schedule;
 mod services;
 mod snapshot;
 mod supports;
-mod timelines;
+mod tokens;
 
 pub use checked_plan::CheckedPlan;
+pub use checker::Checker;
 pub use checking::check;
 pub use filter::{AllPlans, Filter};
 pub use laws::{

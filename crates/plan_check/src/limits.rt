@@ -1,10 +1,11 @@
-ghost use Rattle.std.specs.Prelude.{◌≡◌, ◌+◌, ◌<◌, ◌^◌, length, OnOk, IfErr};
-ghost use Rattle.hs_base.specs.Points.{count};
+ghost use Rattle.std.specs.Prelude.{◌≡◌, ◌<◌, ◌^◌, List, length, OnOk, IfErr};
+ghost use Rattle.hs_base.specs.declared.plan.Extension.{Extension};
 ghost use Rattle.hs_base.specs.Checked.{joined, free_points, KeepsBase, KeepsLimits, limits, KeepsBefore};
 ghost use Rattle.hs_base.specs.Faults.{shown, IsFault};
+ghost use Rattle.plan_index.specs.Contents.{contents_of};
 
 use hs_base::{Extension, FREE_POINTS, Fault, Mission, NEW_TOKENS, Plan};
-use token_net::points;
+use plan_index::PlanIndex;
 
 /// Whether the extension is for the plan's next horizon.
 pub(crate) fn check_base(mission: &Mission, plan: &Plan, extension: &Extension) -> Result<(), Fault>
@@ -23,15 +24,12 @@ pub(crate) fn check_base(mission: &Mission, plan: &Plan, extension: &Extension) 
 }
 
 /// The points of the plan with the extension whose times no extension fixes.
-fn count_free(plan: &Plan, extension: &Extension) -> u128
-    requires { count plan.now.extensions < 2 ^ 32 }
-    ensures { result ≡ free_points (joined plan.now.extensions extension.now) }
+fn count_free(index: &PlanIndex, extension: &Extension) -> u128
+    ensures { (es : List Extension) → index.now ≡ contents_of es → result ≡ free_points (joined es extension.now) }
 {
-    let mut free = points(plan) as u128 + 1 + extension.tokens.len() as u128;
-    for earlier in plan.extensions.as_slice() {
-        free = free.saturating_sub(earlier.fixed.len() as u128);
-    }
-    free.saturating_sub(extension.fixed.len() as u128)
+    let all = index.points() as u128 + 1 + extension.tokens.len() as u128;
+    let fixed = index.fixed().len() as u128 + extension.fixed.len() as u128;
+    all.saturating_sub(fixed)
 }
 
 /// A number as a fault shows it.
@@ -45,15 +43,16 @@ fn show(n: u128) -> u32
 pub(crate) fn check_limits(
     mission: &Mission,
     plan: &Plan,
+    index: &PlanIndex,
     extension: &Extension,
 ) -> Result<(), Fault>
-    requires small { count plan.now.extensions < 2 ^ 32 }
+    requires index { index.now ≡ contents_of plan.now.extensions }
     requires before { KeepsBefore mission.now plan.now.extensions extension.now limits }
     ensures kept { OnOk result (KeepsLimits plan.now.extensions extension.now) }
     ensures fault { IfErr result (IsFault mission.now plan.now.extensions extension.now) }
 {
     let tokens = extension.tokens.len();
-    let free = count_free(plan, extension);
+    let free = count_free(index, extension);
     if tokens > NEW_TOKENS || free > FREE_POINTS as u128 {
         return Err(Fault::Limit {
             points: show(free),

@@ -1,13 +1,14 @@
-ghost use Rattle.std.specs.Prelude.{◌≡◌, ℕ, ◌<◌, ◌^◌, ◌&&◌, ◌||◌, length, OnOk, IfErr};
-ghost use Rattle.hs_base.specs.Points.{timeline_of};
+ghost use Rattle.std.specs.Prelude.{◌≡◌, ℕ, ◌<◌, ◌^◌, ◌&&◌, ◌||◌, length, map, OnOk, IfErr};
 ghost use Rattle.hs_base.specs.Needs.{needs_of, is_deferrable};
 ghost use Rattle.plan_check.specs.Claimed.{is_claimed};
-ghost use Rattle.plan_check.specs.Lines.{row_of};
+ghost use Rattle.plan_index.specs.Lines.{kind_in};
+ghost use Rattle.plan_check.specs.Lines.{size_of};
 ghost use Rattle.plan_check.specs.Open.{IsFirstOpen, IsFirstOpenIn, HasNoneOpen, IsOpenFault};
 
 use crate::claims::Claims;
-use crate::timelines::Timelines;
+use crate::tokens::count_of;
 use hs_base::{Fault, Kind, Mission, Need, SvId, TokenRef};
+use plan_index::{PlacedToken, PlanIndex};
 
 /// Whether a support is for the need, or it may wait.
 fn is_settled(claims: &Claims, token: TokenRef, number: u32, need: &Need, last: bool) -> bool
@@ -52,19 +53,23 @@ fn open_in_row(
     mission: &Mission,
     claims: &Claims,
     sv: SvId,
-    row: &[Kind],
+    row: &[PlacedToken],
     first: usize,
 ) -> Option<OpenNeed>
     requires needs { length mission.now.needs < 2 ^ 32 }
     requires few { length row.now < 2 ^ 32 }
-    ensures { IsFirstOpenIn mission.now claims.now.set sv row.now first result }
+    ensures { IsFirstOpenIn mission.now claims.now.set sv (map (kind_in sv.0) row.now) first result }
 {
     for place in first..row.len() {
         let token = TokenRef {
             sv,
             place: place as u32,
         };
-        if let Some(need) = open_need(mission, claims, token, row[place], place + 1 == row.len()) {
+        let kind = Kind {
+            sv,
+            value: row[place].value,
+        };
+        if let Some(need) = open_need(mission, claims, token, kind, place + 1 == row.len()) {
             return Some(OpenNeed {
                 place: place as u32,
                 need,
@@ -74,34 +79,28 @@ fn open_in_row(
     None
 }
 
-/// How many of these tokens are of the variable.
-fn count_of(tokens: &[Kind], sv: u32) -> usize
-    ensures { result ≡ length (timeline_of tokens.now sv) }
-{
-    tokens.iter().filter(|kind| kind.sv.0 == sv).count()
-}
-
 /// Whether the needs of the new tokens, and of the last one before them of each timeline, are
 /// served or may wait.
 pub(crate) fn check_needs(
     mission: &Mission,
     claims: &Claims,
-    lines: &Timelines,
-    fresh: &[Kind],
+    index: &PlanIndex,
+    new: &[Kind],
 ) -> Result<(), Fault>
     requires needs { length mission.now.needs < 2 ^ 32 }
-    requires vars { length lines.now.rows.items < 2 ^ 32 }
-    requires few { (v : ℕ) → length (row_of lines.now.rows.items v) < 2 ^ 32 }
-    ensures none { OnOk result (HasNoneOpen mission.now claims.now.set lines.now.rows.items fresh.now) }
-    ensures fault { IfErr result (IsOpenFault mission.now claims.now.set lines.now.rows.items fresh.now) }
+    requires vars { length mission.now.vars < 2 ^ 32 }
+    requires few { (v : ℕ) → size_of index.now.tokens v < 2 ^ 32 }
+    ensures none { OnOk result (HasNoneOpen mission.now claims.now.set index.now.tokens new.now) }
+    ensures fault { IfErr result (IsOpenFault mission.now claims.now.set index.now.tokens new.now) }
 {
-    for (v, row) in lines.rows.iter().enumerate() {
+    for v in 0..mission.vars.len() {
         let sv = SvId(v as u32);
+        let row = index.timeline(sv);
         let first = row
             .len()
-            .saturating_sub(count_of(fresh, sv.0))
+            .saturating_sub(count_of(new, sv))
             .saturating_sub(1);
-        if let Some(open) = open_in_row(mission, claims, sv, row.as_slice(), first) {
+        if let Some(open) = open_in_row(mission, claims, sv, row, first) {
             return Err(Fault::Unsupported {
                 sv,
                 place: open.place,

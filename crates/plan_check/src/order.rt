@@ -1,14 +1,15 @@
-ghost use Rattle.std.specs.Prelude.{◌<◌, ◌^◌, ◌↔◌, length, IsTrue, OnOk, IfOk, IfErr};
-ghost use Rattle.hs_base.specs.Points.{tokens_of};
+ghost use Rattle.std.specs.Prelude.{◌≡◌, ◌<◌, ◌^◌, ◌↔◌, ◌++◌, length, IsTrue, OnOk, IfErr, List};
+ghost use Rattle.hs_base.specs.declared.mission.Kind.{Kind as TokenKind};
 ghost use Rattle.hs_base.specs.Timelines.{MayFollow};
-ghost use Rattle.hs_base.specs.Checked.{joined, Checked, MayStandBehind, KeepsOrder, order, KeepsBefore};
+ghost use Rattle.hs_base.specs.Checked.{Checked, MayStandBehind, KeepsOrder, order, KeepsBefore};
 ghost use Rattle.hs_base.specs.Faults.{IsFault};
-ghost use Rattle.plan_check.specs.Lines.{row_of, AreLines};
+ghost use Rattle.plan_index.specs.Contents.{contents_of};
+ghost use Rattle.plan_check.specs.Lines.{last_value, size_of};
 ghost use Rattle.plan_check.specs.Standing.{MayStand, NoneMissing, IsStandFault};
 
-use crate::timelines::Timelines;
+use crate::tokens::{count_with, first_empty, last_with};
 use hs_base::{Extension, Fault, Kind, Mission, Plan, SvId, ValId, Var};
-use std::alloc::Global;
+use plan_index::PlanIndex;
 
 /// Whether a value may follow another one.
 fn may_follow(var: &Var, before: ValId, value: ValId) -> bool
@@ -20,38 +21,45 @@ fn may_follow(var: &Var, before: ValId, value: ValId) -> bool
     }
 }
 
-/// Whether a value may stand behind the tokens of its timeline.
-fn may_stand_behind(var: &Var, row: &[Kind], value: ValId) -> bool
-    ensures { IsTrue result ↔ MayStandBehind var.now row.now value.0 }
+/// Whether a value may stand behind the tokens of its timeline, by the value of the last one.
+fn may_stand_behind(var: &Var, last: Option<ValId>, value: ValId) -> bool
+    ensures { (row : List TokenKind) → last ≡ last_value row → IsTrue result ↔ MayStandBehind var.now row value.0 }
 {
-    match row.last() {
-        Some(last) => may_follow(var, last.value, value),
+    match last {
+        Some(before) => may_follow(var, before, value),
         None => value.0 == var.begin.0,
     }
 }
 
-/// Whether a token may stand behind those of its timeline, where the new one before it is of
-/// variable `lowest`.
-fn may_stand(mission: &Mission, lines: &Timelines, lowest: u32, kind: Kind) -> bool
-    ensures { IsTrue result ↔ MayStand mission.now lines.now.rows.items lowest kind }
+/// Whether a token may stand behind those of the plan and the new ones before it, of which the
+/// last is of variable `lowest`.
+fn may_stand(mission: &Mission, index: &PlanIndex, new: &[Kind], lowest: u32, kind: Kind) -> bool
+    ensures { IsTrue result ↔ MayStand mission.now (index.now.tokens ++ new.now) lowest kind }
 {
     if kind.sv.0 < lowest {
         return false;
     }
     match mission.vars.as_slice().get(kind.sv.0 as usize) {
-        Some(var) => may_stand_behind(var, lines.row(kind.sv), kind.value),
+        Some(var) => may_stand_behind(var, last_with(index, new, kind.sv), kind.value),
         None => false,
     }
 }
 
 /// Whether no first token of a smaller variable is missing, and the token may stand.
-fn check_token(mission: &Mission, lines: &Timelines, lowest: u32, kind: Kind) -> Result<(), Fault>
-    requires few { length (row_of lines.now.rows.items kind.sv.0) < 2 ^ 32 }
-    ensures missing { OnOk result (NoneMissing lines.now.rows.items kind.sv.0) }
-    ensures stands { OnOk result (MayStand mission.now lines.now.rows.items lowest kind) }
-    ensures fault { IfErr result (IsStandFault mission.now lines.now.rows.items lowest kind) }
+fn check_token(
+    mission: &Mission,
+    index: &PlanIndex,
+    new: &[Kind],
+    lowest: u32,
+    kind: Kind,
+) -> Result<(), Fault>
+    requires vars { length mission.now.vars < 2 ^ 32 }
+    requires few { size_of (index.now.tokens ++ new.now) kind.sv.0 < 2 ^ 32 }
+    ensures missing { OnOk result (NoneMissing (index.now.tokens ++ new.now) (length mission.now.vars) kind.sv.0) }
+    ensures stands { OnOk result (MayStand mission.now (index.now.tokens ++ new.now) lowest kind) }
+    ensures fault { IfErr result (IsStandFault mission.now (index.now.tokens ++ new.now) lowest kind) }
 {
-    if let Some(v) = lines.first_empty() {
+    if let Some(v) = first_empty(index, new, mission.vars.len()) {
         if v < kind.sv.0 as usize {
             return Err(Fault::Order {
                 sv: SvId(v as u32),
@@ -59,41 +67,39 @@ fn check_token(mission: &Mission, lines: &Timelines, lowest: u32, kind: Kind) ->
             });
         }
     }
-    if !may_stand(mission, lines, lowest, kind) {
+    if !may_stand(mission, index, new, lowest, kind) {
         return Err(Fault::Order {
             sv: kind.sv,
-            place: lines.row(kind.sv).len() as u32,
+            place: count_with(index, new, kind.sv) as u32,
         });
     }
     Ok(())
 }
 
-/// The timelines of the plan with the extension, where its tokens are in order.
+/// Whether the extension's tokens are in order behind the plan's.
 pub(crate) fn check_order(
-    alloc: Global,
     mission: &Mission,
     plan: &Plan,
+    index: &PlanIndex,
     extension: &Extension,
-) -> Result<Timelines, Fault>
+) -> Result<(), Fault>
     requires checked { Checked mission.now plan.now.extensions }
+    requires index { index.now ≡ contents_of plan.now.extensions }
     requires before { KeepsBefore mission.now plan.now.extensions extension.now order }
-    ensures lines { IfOk result (λ t. AreLines (length mission.now.vars) (tokens_of (joined plan.now.extensions extension.now)) t.rows.items) }
     ensures kept { OnOk result (KeepsOrder mission.now plan.now.extensions extension.now) }
     ensures fault { IfErr result (IsFault mission.now plan.now.extensions extension.now) }
 {
-    let mut lines = Timelines::of_plan(alloc, mission.vars.len(), plan.extensions.as_slice())?;
     let tokens = extension.tokens.as_slice();
     let mut lowest = 0;
-    for kind in tokens {
-        check_token(mission, &lines, lowest, *kind)?;
-        lines.push(*kind)?;
+    for (i, kind) in tokens.iter().enumerate() {
+        check_token(mission, index, &tokens[..i], lowest, *kind)?;
         lowest = kind.sv.0;
     }
-    match lines.first_empty() {
+    match first_empty(index, tokens, mission.vars.len()) {
         Some(v) => Err(Fault::Order {
             sv: SvId(v as u32),
             place: 0,
         }),
-        None => Ok(lines),
+        None => Ok(()),
     }
 }

@@ -1,28 +1,26 @@
-ghost use Rattle.std.specs.Prelude.{◌≡◌, ◌<◌, ◌↔◌, length, slice_get, Some, IsTrue, IfOk, OnOk, IfErr};
+ghost use Rattle.std.specs.Prelude.{◌≡◌, ◌<◌, ◌↔◌, length, slice_get, Some, IsTrue, OnOk, IfErr};
 ghost use Rattle.hs_base.specs.declared.plan.Support.{Support};
 ghost use Rattle.hs_base.specs.Points.{tokens_of};
 ghost use Rattle.hs_base.specs.Checked.{joined, supports_of, Checked, IsNeedBefore, KeepsSupports, supports, KeepsBefore};
 ghost use Rattle.hs_base.specs.Faults.{IsFault};
-ghost use Rattle.plan_check.specs.Lines.{AreLines};
 ghost use Rattle.plan_check.specs.Claimed.{AreClaims};
 ghost use Rattle.plan_check.specs.Serving.{IsServingIn, IsBehindLast};
 
 use crate::claims::Claims;
-use crate::timelines::Timelines;
 use hs_base::{Extension, Fault, Mission, Plan, Support};
-use std::alloc::Global;
+use plan_index::PlanIndex;
 
 /// Whether a support names a token, a need of it, and a token of one of that need's choices.
-fn is_serving(mission: &Mission, lines: &Timelines, support: Support) -> bool
-    ensures { IsTrue result ↔ IsServingIn mission.now lines.now.rows.items support }
+fn is_serving(mission: &Mission, index: &PlanIndex, support: Support) -> bool
+    ensures { IsTrue result ↔ IsServingIn mission.now index.now.tokens support }
 {
-    let Some(of) = lines.kind(support.token) else {
+    let Some(of) = index.token(support.token) else {
         return false;
     };
     let Some(need) = mission.need(of, support.need) else {
         return false;
     };
-    match lines.kind(support.by) {
+    match index.token(support.by) {
         Some(by) => need.choice(by).is_some(),
         None => false,
     }
@@ -53,37 +51,37 @@ fn is_rising(supports: &[Support], i: usize) -> bool
 }
 
 /// Whether a support of a list is right behind the one before it.
-fn is_right(mission: &Mission, lines: &Timelines, supports: &[Support], i: usize) -> bool
+fn is_right(mission: &Mission, index: &PlanIndex, supports: &[Support], i: usize) -> bool
     requires { i < length supports.now }
-    ensures { IsTrue result ↔ (IsBehindLast supports.now i × ((s : Support) → slice_get supports.now i ≡ Some s → IsServingIn mission.now lines.now.rows.items s)) }
+    ensures { IsTrue result ↔ (IsBehindLast supports.now i × ((s : Support) → slice_get supports.now i ≡ Some s → IsServingIn mission.now index.now.tokens s)) }
 {
-    is_rising(supports, i) && is_serving(mission, lines, supports[i])
+    is_rising(supports, i) && is_serving(mission, index, supports[i])
 }
 
-/// What all supports of the plan with the extension are for, where the extension's are right.
+/// Whether the extension's supports are right. What they are for is added to the claims.
 pub(crate) fn check_supports(
-    alloc: Global,
     mission: &Mission,
     plan: &Plan,
-    lines: &Timelines,
+    index: &PlanIndex,
+    claims: &mut Claims,
     extension: &Extension,
-) -> Result<Claims, Fault>
+) -> Result<(), Fault>
     requires checked { Checked mission.now plan.now.extensions }
     requires before { KeepsBefore mission.now plan.now.extensions extension.now supports }
-    requires lines { AreLines (length mission.now.vars) (tokens_of (joined plan.now.extensions extension.now)) lines.now.rows.items }
-    ensures claims { IfOk result (λ c. AreClaims (supports_of (joined plan.now.extensions extension.now)) c.set) }
+    requires tokens { index.now.tokens ≡ tokens_of (joined plan.now.extensions extension.now) }
+    requires claims { AreClaims (supports_of plan.now.extensions) claims.old.set }
+    ensures claims { OnOk result (AreClaims (supports_of (joined plan.now.extensions extension.now)) claims.new.set) }
     ensures kept { OnOk result (KeepsSupports mission.now plan.now.extensions extension.now) }
     ensures fault { IfErr result (IsFault mission.now plan.now.extensions extension.now) }
 {
-    let mut claims = Claims::of_plan(alloc, plan.extensions.as_slice())?;
     let supports = extension.supports.as_slice();
     for (i, support) in supports.iter().enumerate() {
-        if !is_right(mission, lines, supports, i) {
+        if !is_right(mission, index, supports, i) {
             return Err(Fault::WrongSupport { number: i as u32 });
         }
         if !claims.insert(support)? {
             return Err(Fault::WrongSupport { number: i as u32 });
         }
     }
-    Ok(claims)
+    Ok(())
 }

@@ -1,4 +1,4 @@
-ghost use Rattle.std.specs.Prelude.{◌≡◌, ℕ, ◌+◌, ◌-◌, ◌^◌, ◌<◌, false, [], length, get_or, slice_get, vec_len, All, IfOk, OnOk};
+ghost use Rattle.std.specs.Prelude.{◌≡◌, ℕ, ◌+◌, ◌-◌, ◌^◌, ◌<◌, false, [], length, get_or, slice_get, None, vec_len, All, IfOk, OnOk};
 ghost use Rattle.plan_index.specs.Contents.{contents_of, extended};
 ghost use Rattle.plan_index.specs.Lines.{row_of};
 ghost use Rattle.plan_index.specs.Entered.{contents, IsIndex, AreKept, HaveRoom};
@@ -101,9 +101,12 @@ impl Entries {
 
     /// The point of the horizon with this number, counted from 1.
     pub fn mark(&self, number: u32) -> Option<PointId>
-        requires { 0 < number }
-        ensures { result ≡ slice_get self.now.horizons.items (number - 1) }
+        ensures some { 0 < number → result ≡ slice_get self.now.horizons.items (number - 1) }
+        ensures none { number ≡ 0 → result ≡ None }
     {
+        if number == 0 {
+            return None;
+        }
         self.horizons.get(number as usize - 1).copied()
     }
 

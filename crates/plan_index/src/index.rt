@@ -1,6 +1,6 @@
 ghost use Rattle.std.specs.Prelude.{◌≡◌, ℕ, ◌+◌, ◌-◌, ◌^◌, ◌<◌, List, [], ◌∷◌, ◌++◌, length, map, slice_get, option_map, Some, IfOk, OnOk, OnErr};
 ghost use Rattle.hs_base.specs.declared.plan.Extension.{Extension};
-ghost use Rattle.hs_base.specs.Points.{horizon, ending, place_of, timeline_of, is_observed, start, count};
+ghost use Rattle.hs_base.specs.Points.{horizon, ending, place_of, refs_after, timeline_of, is_observed, start, count};
 ghost use Rattle.hs_base.specs.Bounds.{is_fixed};
 ghost use Rattle.hs_base.specs.Checked.{free_points};
 ghost use Rattle.plan_index.specs.Contents.{contents_of, extended, end_of, start_of};
@@ -8,7 +8,7 @@ ghost use Rattle.plan_index.specs.Lines.{kind_in};
 ghost use Rattle.plan_index.specs.Named.{named, has_time};
 
 use crate::entries::Entries;
-use crate::lookups::is_ended_by_device;
+use crate::lookups::{count_of, is_ended_by_device};
 use crate::{PlacedToken, PointName};
 use hs_base::{Extension, Kind, Memory, Mission, PointId, SvId, Time, TokenRef};
 use std::alloc::Global;
@@ -148,7 +148,6 @@ impl PlanIndex {
     /// The point of the horizon with this number, counted from 1, or the number of points where
     /// there is no such horizon.
     pub fn horizon(&self, number: u32) -> PointId
-        requires { 0 < number }
         ensures { result.0 ≡ place_of (horizon number) self.now.points }
     {
         match self.entries.mark(number) {
@@ -162,6 +161,39 @@ impl PlanIndex {
         ensures { option_map named result ≡ slice_get self.now.points point.0 }
     {
         self.entries.names.get(point.0 as usize).copied()
+    }
+
+    /// The name of a point of the plan with a further extension, which isn't taken in; None where
+    /// that plan doesn't have it.
+    pub fn name_with(&self, extension: &Extension, point: PointId) -> Option<PointName>
+        ensures { option_map named result ≡ slice_get (extended self.now extension.now).points point.0 }
+    {
+        let number = point.0 as usize;
+        let points = self.points();
+        if number < points {
+            return self.name(point);
+        }
+        if number == points {
+            return Some(PointName::Horizon(self.entries.horizons.len() as u32 + 1));
+        }
+        self.new_end(extension.tokens.as_slice(), number - points - 1)
+    }
+
+    /// The name of the end of a further token, by its number among these.
+    fn new_end(&self, tokens: &[Kind], i: usize) -> Option<PointName>
+        requires { length self.now.points + i < 2 ^ 32 }
+        ensures { option_map named result ≡ slice_get (map end_of (refs_after self.now.tokens tokens.now)) i }
+    {
+        if i >= tokens.len() {
+            return None;
+        }
+        let sv = tokens[i].sv;
+        let before = self.entries.line(sv).len();
+        let earlier = count_of(&tokens[..i], sv.0);
+        Some(PointName::End(TokenRef {
+            sv,
+            place: (before + earlier) as u32,
+        }))
     }
 
     /// Whether the point is fixed.

@@ -1,5 +1,5 @@
 //! The points, tokens and fixed times of a plan by their numbers and names, grown with each
-//! extension: each question takes a constant time.
+//! extension.
 #![tactic(auto)]
 
 mod entries;

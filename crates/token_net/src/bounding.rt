@@ -59,6 +59,56 @@ fn add_extension(
     Ok(())
 }
 
+/// Adds the bounds of a plan's last extension, by the index of the plan.
+fn add_last_extension(
+    alloc: Global,
+    made: &mut List<Bound>,
+    mission: &Mission,
+    index: &PlanIndex,
+    extension: &Extension,
+) -> Result<(), Memory>
+    requires mission { IsMission mission.now }
+    requires some { 1 ≤ index.now.horizons }
+    requires room { length extension.now.tokens + 1 ≤ length index.now.points }
+    requires small { length index.now.points < 2 ^ 32 }
+    requires times { All (λ t. pos 0 ≤ℤ t.at) extension.now.fixed }
+    requires since { InRange whole extension.now.since }
+    ensures { (es : List Extension) → index.now ≡ contents_of (es ++ extension.now ∷ []) → OnOk result (made.new ≡ made.old ++ new_bounds mission.now es extension.now) }
+{
+    let number = index.horizons() - 1;
+    let before = index.points() - extension.tokens.len() - 1;
+    let new = ended_at(alloc, &index.names()[before + 1..])?;
+    add_extension(
+        made,
+        mission,
+        index,
+        number,
+        PointId(before as u32),
+        new.as_slice(),
+        extension,
+    )
+}
+
+/// The bounds that a plan's last extension brings, by the index of the plan.
+pub fn new_bounds(
+    alloc: Global,
+    mission: &Mission,
+    index: &PlanIndex,
+    extension: &Extension,
+) -> Result<List<Bound>, Memory>
+    requires mission { IsMission mission.now }
+    requires some { 1 ≤ index.now.horizons }
+    requires room { length extension.now.tokens + 1 ≤ length index.now.points }
+    requires small { length index.now.points < 2 ^ 32 }
+    requires times { All (λ t. pos 0 ≤ℤ t.at) extension.now.fixed }
+    requires since { InRange whole extension.now.since }
+    ensures { (es : List Extension) → index.now ≡ contents_of (es ++ extension.now ∷ []) → IfOk result (λ made. made ≡ new_bounds mission.now es extension.now) }
+{
+    let mut made = List::new(alloc);
+    add_last_extension(alloc, &mut made, mission, index, extension)?;
+    Ok(made)
+}
+
 /// Takes an extension into the index, and adds its bounds.
 fn add_next(
     alloc: Global,
@@ -73,21 +123,8 @@ fn add_next(
     requires since { InRange whole extension.now.since }
     ensures { (es : List Extension) → index.old ≡ contents_of es → OnOk result ((index.new ≡ contents_of (es ++ extension.now ∷ [])) × (made.new ≡ made.old ++ new_bounds mission.now es extension.now)) }
 {
-    let number = index.horizons();
-    let before = index.points();
-    let mark = PointId(before as u32);
     index.extend(extension)?;
-    let new = ended_at(alloc, &index.names()[before + 1..])?;
-    add_extension(
-        made,
-        mission,
-        index,
-        number,
-        mark,
-        new.as_slice(),
-        extension,
-    )?;
-    Ok(())
+    add_last_extension(alloc, made, mission, index, extension)
 }
 
 /// The bounds of these extensions.

@@ -6,5 +6,5 @@ mod bounding;
 mod items;
 mod numbers;
 
-pub use bounding::bounds;
+pub use bounding::{bounds, new_bounds};
 pub use numbers::{horizon_point, points};

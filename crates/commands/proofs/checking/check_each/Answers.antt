@@ -6,15 +6,15 @@ use Rattle.commands.proofs.checking.check_each.Goals as goal
 
 pub loop-place-init : goal.loop-place-init
 loop-place-init c = record {
-  mission = c.in_ok-checked.ensures.mission ∙ c.in_ok-copy.ensures;
-  plan = c.in_ok-checked.ensures.plan;
+  mission = c.in_ok-checker.ensures.mission ∙ c.in_ok-copy.ensures;
+  plan = c.in_ok-checker.ensures.plan;
   checked = none_checked c.args.mission.now c.requires;
 }
 
 pub loop-place-preserved : goal.loop-place-preserved
 loop-place-preserved c =
     let es = c.args.extensions.now in
-    let base = c.loop-place.checked in
+    let base = c.loop-place.checker in
     let next = c.in-Ok.next in
     let i = c.loop-place.place in
     let at = slice_get_read es (length es) i c.index-extensions-place.result refl (omega arith) c.index-extensions-place.is ∙ ap Some (sym c.in_ok-copy-2.ensures) in
@@ -25,7 +25,7 @@ loop-place-preserved c =
 pub returns-in-Err-clause-flaw : goal.returns-in-Err-clause-flaw
 returns-in-Err-clause-flaw c =
     let es = c.args.extensions.now in
-    let base = c.loop-place.checked in
+    let base = c.loop-place.checker in
     let i = c.loop-place.place in
     let at = slice_get_read es (length es) i c.index-extensions-place.result refl (omega arith) c.index-extensions-place.is ∙ ap Some (sym c.in_ok-copy-2.ensures) in
     λ some. flaw_next c.args.mission.now base.mission es base.plan.extensions i c.in_ok-copy-2.field-0 c.in-Err.fault c.loop-place.invariant.mission c.loop-place.invariant.plan at c.loop-place.invariant.checked c.in-Err.ensures.fault

@@ -4,7 +4,7 @@ use Rattle.commands.proofs.checking.check_each.Given as goal
 
 abbrev pub invariant-loop-place : goal.invariant-loop-place
 invariant-loop-place l = record {
-  mission : l.checked.mission ≡ l.mission;
-  plan : l.checked.plan.extensions ≡ take l.place l.extensions;
+  mission : l.checker.mission ≡ l.mission;
+  plan : l.checker.plan.extensions ≡ take l.place l.extensions;
   checked : Checked l.mission (take l.place l.extensions);
 }

@@ -1,9 +1,18 @@
-use Rattle.std.proofs.Common.{◌≡◌, ◌≤◌, length, ap, arith}
+use Rattle.std.proofs.Common.{length, ap, arith}
+use Rattle.plan_index.specs.Contents.{Contents}
 use Rattle.plan_check.proofs.LimitLemmas.{free_is}
 use Rattle.plan_check.proofs.limits.count_free.Goals as goal
 
 pub returns : goal.returns
-returns c =
-    let items : c.as_slice-earlier-items.result.now ≡ c.args.plan.now.extensions = c.as_slice-earlier-items.ensures in
-    let past : length c.args.plan.now.extensions ≤ c.loop-earlier.earlier-index = omega (arith, ap length items, c.loop-earlier-test.false) in
-    omega (arith, free_is c.args.plan.now.extensions c.loop-earlier.earlier-index c.args.extension.now c.loop-earlier.free past c.loop-earlier.invariant, c.saturating_sub.ensures, c.len-2.ensures)
+returns c = λ es is.
+    omega (
+      arith,
+      free_is es c.args.extension.now,
+      ap (λ (x : Contents). length x.points) is,
+      ap (λ (x : Contents). length x.fixed) is,
+      c.saturating_sub.ensures,
+      c.points.ensures,
+      c.len.ensures,
+      ap length c.fixed.ensures,
+      c.len-2.ensures,
+    )
