@@ -8,7 +8,8 @@ ghost use Rattle.answer_lines.specs.Naming.{NamesPoints};
 use crate::lines::{push_last, push_numbered, push_part};
 use hs_base::{Bound, Extension, Fault, Memory, Mission, SvId};
 use hs_texts::Text;
-use plan_text::{PointNames, push_bound, push_variable};
+use plan_index::PlanIndex;
+use plan_text::{push_bound, push_variable};
 use std::alloc::Global;
 
 fn push_pair(text: &mut Text, words: &[u8], first: u32, second: u32) -> Result<(), Memory>
@@ -48,14 +49,14 @@ fn push_unsupported(
 fn push_bounds(
     text: &mut Text,
     mission: &Mission,
-    names: &PointNames,
+    index: &PlanIndex,
     bounds: &[Bound],
 ) -> Result<(), Memory>
     ensures { OnOk result (text.new
-        ≡ text.old ++ flat_map (λ b. bound_in mission.now names.now b ++ codes "\n") bounds.now) }
+        ≡ text.old ++ flat_map (λ b. bound_in mission.now index.now.points b ++ codes "\n") bounds.now) }
 {
     for bound in bounds {
-        push_bound(text, mission, names, bound)?;
+        push_bound(text, mission, index, bound)?;
         text.push_bytes(b"\n")?;
     }
     Ok(())
@@ -73,9 +74,9 @@ fn push_cycle(
         ≡ text.old
         ++ (codes "7 cycle\n" ++ flat_map (λ b. bound_text mission.now extensions.now b ++ codes "\n") bounds.now)) }
 {
-    let names = PointNames::of(alloc, extensions)?;
+    let index = PlanIndex::of(alloc, extensions)?;
     text.push_bytes(b"7 cycle\n")?;
-    push_bounds(text, mission, &names, bounds)
+    push_bounds(text, mission, &index, bounds)
 }
 
 fn push_lines(

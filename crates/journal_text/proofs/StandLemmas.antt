@@ -2,7 +2,7 @@
 use Rattle.std.proofs.Common.{◌≡◌, ℕ, ◌+◌, ◌≤◌, ◌<◌, ◌^◌, take, drop, Bool, true, false, cond, List, [], ◌∷◌, ◌++◌, length, filter_map, Option, Some, None, option_to_list, refl, sym, ap, ◌∙◌, arith}
 use Rattle.std.specs.List.{cons_option}
 use Rattle.std.proofs.lemmas.Grind.{flat_map-append}
-use Rattle.std.proofs.lemmas.List.{append-nil, length_push, length-append, take-append-drop}
+use Rattle.std.proofs.lemmas.List.{append-nil, length-append, take-append-drop}
 use Rattle.std.proofs.lemmas.List.Elements.{filter_map-append}
 use Rattle.hs_base.specs.declared.ids.PointId.{PointId}
 use Rattle.hs_base.specs.declared.plan.Extension.{Extension}
@@ -10,9 +10,10 @@ use Rattle.hs_base.specs.declared.net.Net.{Net}
 use Rattle.hs_machine.specs.declared.history.Deed.{Deed}
 use Rattle.hs_machine.specs.declared.history.Deed.TheVariants.{Tick, Fire, Report, Handover, Stale, Late, Early, Broken}
 use Rattle.hs_machine.specs.declared.history.Entry.{Entry}
-use Rattle.hs_base.specs.Points.{Point, points_of, tokens_of, hor, count}
+use Rattle.hs_base.specs.Points.{tokens_of, hor, count}
 use Rattle.hs_machine.specs.State.{is_tick, hands_over, ticks_of, now_of, plan_of}
-use Rattle.base_laws.proofs.PointLemmas.{horizon_number, count_is, count-push}
+use Rattle.base_laws.proofs.PointLemmas.{count_is, count-push}
+use Rattle.plan_index.specs.Contents.{Contents, contents_of}
 use Rattle.journal_text.specs.Stands.{newest_horizon, StandsAt}
 
 pub now_of-push : (h : List Entry) (e : Entry) → now_of (h ++ e ∷ []) ≡ now_of h + ticks_of e
@@ -28,28 +29,29 @@ plan_of-push h e =
     let handed = λ (x : Entry). hands_over x.deed in
     filter_map-append handed h (e ∷ []) ∙ ap (λ es. filter_map handed h ++ es) (cons_option-nil (hands_over e.deed))
 
--- the newest horizon of a plan with a further extension
-newest-push : (es : List Extension) (e : Extension) → newest_horizon (es ++ e ∷ []) ≡ Some (record { 0 = count es })
-newest-push [] e = ap (λ n. Some (record { 0 = n })) (horizon_number [] e)
-newest-push (x ∷ es) e =
-    ap (λ n. Some (record { 0 = n })) (ap (hor (x ∷ es ++ e ∷ [])) (length_push (x ∷ es) e) ∙ horizon_number (x ∷ es) e)
+-- the newest horizon by the number of horizons
+pub newest_none : (es : List Extension) (n : ℕ) → n ≡ length es → n ≡ 0 → None ≡ newest_horizon es
+newest_none [] n many none = refl
+newest_none (x ∷ es) n many none = absurd (omega (arith, many, none))
 
-pub stands-tick : (t : ℕ) (ps : List Point) (n : Option PointId) (h : List Entry) (e : Entry) → StandsAt t ps n h → e.deed ≡ Tick → StandsAt (t + 1) ps n (h ++ e ∷ [])
-stands-tick t ps n h e s is =
+pub newest_some : (es : List Extension) (n : ℕ) (p : PointId) → n ≡ length es → (n ≡ 0 → ⊥) → p.0 ≡ hor es n → Some p ≡ newest_horizon es
+newest_some [] n p many some at = absurd (some many)
+newest_some (x ∷ es) n p many some at = ap (λ k. Some (record { 0 = k })) (at ∙ ap (hor (x ∷ es)) many)
+
+pub stands-tick : (t : ℕ) (c : Contents) (h : List Entry) (e : Entry) → StandsAt t c h → e.deed ≡ Tick → StandsAt (t + 1) c (h ++ e ∷ [])
+stands-tick t c h e s is =
     let plan : plan_of (h ++ e ∷ []) ≡ plan_of h = plan_of-push h e ∙ ap (λ d. plan_of h ++ option_to_list (hands_over d)) is ∙ append-nil (plan_of h) in
     record {
       tick_is = ap (λ k. k + 1) s.tick_is ∙ sym (now_of-push h e ∙ ap (λ d. now_of h + cond (is_tick d) 1 0) is);
-      points_are = s.points_are ∙ ap points_of (sym plan);
-      newest_is = s.newest_is ∙ ap newest_horizon (sym plan);
+      index_is = s.index_is ∙ ap contents_of (sym plan);
     }
 
-pub stands-handover : (t : ℕ) (ps qs : List Point) (n : Option PointId) (h : List Entry) (e : Entry) (x : Extension) (net : Net) → StandsAt t ps n h → e.deed ≡ Handover x net → qs ≡ points_of (plan_of h ++ x ∷ []) → StandsAt t qs (Some (record { 0 = length ps })) (h ++ e ∷ [])
-stands-handover t ps qs n h e x net s is points =
+pub stands-handover : (t : ℕ) (c d : Contents) (h : List Entry) (e : Entry) (x : Extension) (net : Net) → StandsAt t c h → e.deed ≡ Handover x net → d ≡ contents_of (plan_of h ++ x ∷ []) → StandsAt t d (h ++ e ∷ [])
+stands-handover t c d h e x net s is grown =
     let plan : plan_of (h ++ e ∷ []) ≡ plan_of h ++ x ∷ [] = plan_of-push h e ∙ ap (λ d. plan_of h ++ option_to_list (hands_over d)) is in
     record {
       tick_is = s.tick_is ∙ sym (now_of-push h e ∙ ap (λ d. now_of h + cond (is_tick d) 1 0) is ∙ omega arith);
-      points_are = points ∙ ap points_of (sym plan);
-      newest_is = ap (λ rs. Some (record { 0 = length rs })) s.points_are ∙ sym (ap newest_horizon plan ∙ newest-push (plan_of h) x);
+      index_is = grown ∙ ap contents_of (sym plan);
     }
 
 -- neither a tick nor a handover
@@ -67,14 +69,13 @@ is_other (Late b) t n = record { tick = refl; extension = refl }
 is_other (Early b) t n = record { tick = refl; extension = refl }
 is_other (Broken d) t n = record { tick = refl; extension = refl }
 
-pub stands-other : (t : ℕ) (ps : List Point) (n : Option PointId) (h : List Entry) (e : Entry) → StandsAt t ps n h → (e.deed ≡ Tick → ⊥) → ((x : Extension) (net : Net) → e.deed ≡ Handover x net → ⊥) → StandsAt t ps n (h ++ e ∷ [])
-stands-other t ps n h e s no_tick no_handover =
+pub stands-other : (t : ℕ) (c : Contents) (h : List Entry) (e : Entry) → StandsAt t c h → (e.deed ≡ Tick → ⊥) → ((x : Extension) (net : Net) → e.deed ≡ Handover x net → ⊥) → StandsAt t c (h ++ e ∷ [])
+stands-other t c h e s no_tick no_handover =
     let other = is_other e.deed no_tick no_handover in
     let plan : plan_of (h ++ e ∷ []) ≡ plan_of h = plan_of-push h e ∙ ap (λ o. plan_of h ++ option_to_list o) other.extension ∙ append-nil (plan_of h) in
     record {
       tick_is = s.tick_is ∙ sym (now_of-push h e ∙ ap (λ b. now_of h + cond b 1 0) other.tick ∙ omega arith);
-      points_are = s.points_are ∙ ap points_of (sym plan);
-      newest_is = s.newest_is ∙ ap newest_horizon (sym plan);
+      index_is = s.index_is ∙ ap contents_of (sym plan);
     }
 
 -- each tick is an entry
@@ -98,8 +99,12 @@ count-take h i =
     omega (arith, ap count whole, count-front (plan_of (take i h)) (plan_of (drop i h)))
 
 -- there is a number for each point of a plan that is handed over
-pub fewer-handed : (h : List Entry) (i : ℕ) (e : Entry) (ps : List Point) (x : Extension) → take (i + 1) h ≡ take i h ++ e ∷ [] → ps ≡ points_of (plan_of (take i h)) → hands_over e.deed ≡ Some x → count (plan_of h) < 2 ^ 32 → length ps + length x.tokens + 1 < 2 ^ 32
-fewer-handed h i e ps x next points handed few =
+pub fewer-handed : (h : List Entry) (i : ℕ) (e : Entry) (c : Contents) (x : Extension) → take (i + 1) h ≡ take i h ++ e ∷ [] → c ≡ contents_of (plan_of (take i h)) → hands_over e.deed ≡ Some x → count (plan_of h) < 2 ^ 32 → length c.points + length x.tokens + 1 < 2 ^ 32
+fewer-handed h i e c x next is handed few =
     let plan : plan_of (take (i + 1) h) ≡ plan_of (take i h) ++ x ∷ [] =
     ap plan_of next ∙ plan_of-push (take i h) e ∙ ap (λ o. plan_of (take i h) ++ option_to_list o) handed in
-    omega (arith, ap length points, ap count plan, count-push (plan_of (take i h)) x, count-take h (i + 1))
+    omega (arith, ap (λ (d : Contents). length d.points) is, ap count plan, count-push (plan_of (take i h)) x, count-take h (i + 1))
+
+-- and for each of its horizons
+pub fewer-horizons : (h : List Entry) (i : ℕ) (c : Contents) → c ≡ contents_of (plan_of (take i h)) → count (plan_of h) < 2 ^ 32 → c.horizons < 2 ^ 32
+fewer-horizons h i c is few = omega (arith, ap (λ (d : Contents). d.horizons) is, count_is (plan_of (take i h)), count-take h i)

@@ -4,19 +4,19 @@ use Rattle.hs_base.specs.declared.ids.PointId.{PointId}
 use Rattle.hs_base.specs.declared.plan.Extension.{Extension}
 use Rattle.hs_machine.specs.declared.history.Entry.{Entry}
 use Rattle.hs_machine.specs.declared.history.Deed.{Deed}
-use Rattle.hs_base.specs.Points.{Point, points_of, hor}
+use Rattle.hs_base.specs.Points.{hor}
 use Rattle.hs_machine.specs.State.{now_of, plan_of, executes}
+use Rattle.plan_index.specs.Contents.{Contents, contents_of}
 
 -- the horizon point of the newest plan, if there is one
 abbrev pub newest_horizon : List Extension → Option PointId
 newest_horizon [] = None
 newest_horizon (e ∷ es) = Some (record { 0 = hor (e ∷ es) (length (e ∷ es)) })
 
--- the time, the newest plan's points and its horizon point after these entries
-pub record StandsAt (tick : ℕ) (points : List Point) (newest : Option PointId) (h : List Entry) : Type 0 where
+-- the time and what is to know of the newest plan after these entries
+pub record StandsAt (tick : ℕ) (index : Contents) (h : List Entry) : Type 0 where
   pub tick_is : tick ≡ now_of h
-  pub points_are : points ≡ points_of (plan_of h)
-  pub newest_is : newest ≡ newest_horizon (plan_of h)
+  pub index_is : index ≡ contents_of (plan_of h)
 
 -- whether the point is the one that is executed, if there is one
 abbrev pub is_point : ℕ → Option PointId → Bool

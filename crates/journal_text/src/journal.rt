@@ -1,4 +1,4 @@
-ghost use Rattle.std.specs.Prelude.{◌≡◌, ◌+◌, ◌^◌, ◌<◌, IfOk};
+ghost use Rattle.std.specs.Prelude.{◌≡◌, ◌^◌, ◌<◌, IfOk};
 ghost use Rattle.hs_machine.specs.State.{count_at};
 ghost use Rattle.log_laws.specs.LogText.{log_text};
 
@@ -12,7 +12,7 @@ use std::alloc::Global;
 
 /// The log of a history. Ticks write nothing; the times of the other entries tell them.
 pub fn write(alloc: Global, mission: &Mission, history: &[Entry]) -> Result<Text, Memory>
-    requires { count_at history.now + 1 < 2 ^ 32 }
+    requires { count_at history.now < 2 ^ 32 }
     ensures { IfOk result (λ text. text ≡ log_text mission.now history.now) }
 {
     let mut text = Text::new(alloc);
@@ -22,12 +22,12 @@ pub fn write(alloc: Global, mission: &Mission, history: &[Entry]) -> Result<Text
         push_deed(
             &mut text,
             mission,
-            &progress.names,
+            &progress.index,
             progress.tick,
             &entry.deed,
         )?;
         progress.take_in(entry)?;
     }
-    push_stop(&mut text, phase(history, progress.newest), progress.tick)?;
+    push_stop(&mut text, phase(history, progress.newest()), progress.tick)?;
     Ok(text)
 }

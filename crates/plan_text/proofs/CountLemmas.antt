@@ -1,11 +1,10 @@
 -- Numbers that count, and counted tokens.
-use Rattle.std.proofs.Common.{◌≡◌, ℕ, zero, suc, ◌+◌, ◌<◌, true, false, not, ◌||◌, nat_lt, List, [], ◌∷◌, ◌++◌, length, map, filter, take, get_or, refl, sym, ap, ◌∙◌, subst, append_assoc, append-nil, arith}
+use Rattle.std.proofs.Common.{◌≡◌, ℕ, zero, suc, ◌+◌, ◌<◌, Bool, true, false, cond, not, ◌||◌, nat_lt, List, [], ◌∷◌, ◌++◌, length, map, filter, take, get_or, refl, sym, ap, ◌∙◌, subst, append_assoc, append-nil, arith}
 use Rattle.std.specs.Prelude.{ℤ, pos, Some, None, slice_get, slice_set, Err}
-use Rattle.std.proofs.lemmas.List.{map-append, take_more}
+use Rattle.std.proofs.lemmas.List.{map-append, length_push, take_more}
 use Rattle.std.proofs.lemmas.List.Elements.{filter-append}
 use Rattle.std.proofs.lemmas.Grind.{flat_map-append}
 use Rattle.std.proofs.lemmas.Slice.Eq.{bytes_eq-Decides}
-use Rattle.plan_text.proofs.NamedLemmas.{number as weight, length-cond}
 use Rattle.std.specs.List.{list_any}
 use Rattle.std.specs.Str.{bytes_eq}
 use Rattle.hs_base.specs.declared.mission.Mission.{Mission}
@@ -53,6 +52,15 @@ count_given (word w ∷ ps) rest z c h k = absurd cc
 count_given (symbol s ∷ ps) rest z c h k = absurd cc
 
 -- Counts of names.
+
+-- 1 for a test that is passed
+abbrev pub weight : Bool → ℕ
+weight true = 1
+weight false = 0
+
+length-cond : {X : Type 0} (b : Bool) (xs : List X) (x : X) → length (xs ++ cond b (x ∷ []) []) ≡ length xs + weight b
+length-cond true xs x = length_push xs x
+length-cond false xs x = ap length (append-nil xs) ∙ omega arith
 
 count_push : (name other : List ℕ) (names : List (List ℕ)) → times_named name (names ++ other ∷ []) ≡ times_named name names + weight (bytes_eq name other)
 count_push name other names = ap length (filter-append (bytes_eq name) names (other ∷ [])) ∙ length-cond (bytes_eq name other) (filter (bytes_eq name) names) other

@@ -1,12 +1,11 @@
 pub mod WalkLemmas
-pub mod NamedLemmas
 pub mod OnwardLemmas
 pub mod SeriesLemmas
 pub mod PlanReadLemmas
 pub mod LoopLemmas
 pub mod SizeLemmas
 pub mod ReadingLemmas
-pub mod NumbersLemmas
+pub mod PointCountLemmas
 pub mod NamingLemmas
 pub mod PlanLemmas
 pub mod OneAnswerLemmas

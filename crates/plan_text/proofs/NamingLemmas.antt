@@ -186,7 +186,8 @@ pub record LookedUp {A B : Type 0} (P : A → B → Type 0) (f : A → List (Lis
   pub means : AllZip P (take i xs) ys
   pub known : flat_map f (take i xs) ≡ []
 
-take_split : {A : Type 0} (xs : List A) (i : ℕ) (d : A) → i < length xs → (back : List A) × (xs ≡ take i xs ++ get_or xs i d ∷ back)
+-- a list around one of its elements
+pub take_split : {A : Type 0} (xs : List A) (i : ℕ) (d : A) → i < length xs → (back : List A) × (xs ≡ take i xs ++ get_or xs i d ∷ back)
 take_split [] i d h = absurd (omega (arith, h))
 take_split (x ∷ xs) zero d h = (xs, refl)
 take_split (x ∷ xs) (suc i) d h = let r = take_split xs i d (omega (arith, h)) in (r.0, ap (λ zs. x ∷ zs) r.1)

@@ -45,7 +45,7 @@ place_left text i n left ps h =
     ∙ sym (place_drop (length text) i n left (map (placed text) ps) (h ∙ sym (placed_length text i ps)))
 
 -- no more pieces are left than there were
-few_spelled : (text : List ℕ) (i : ℕ) (ps : List Piece) → length (spellings text (drop i ps)) ≤ length ps
+pub few_spelled : (text : List ℕ) (i : ℕ) (ps : List Piece) → length (spellings text (drop i ps)) ≤ length ps
 few_spelled text i ps = omega (arith, spelled_length text (drop i ps), length-drop i ps)
 
 -- Reading R by p.

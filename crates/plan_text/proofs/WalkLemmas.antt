@@ -1,15 +1,8 @@
 -- Lists that are read from the front, with one more element at their end.
-use Rattle.std.proofs.Common.{◌≡◌, ◌≤◌, ◌<◌, ◌+◌, ℕ, get_or, subst, ap, sym, ◌∙◌, zero, suc, length, take, arith, List, [], ◌∷◌, ◌++◌, append_assoc}
-use Rattle.std.proofs.lemmas.List.{length-append, take_more}
+use Rattle.std.proofs.Common.{◌≡◌, ◌<◌, ◌+◌, ℕ, get_or, subst, ap, sym, ◌∙◌, length, take, List, [], ◌∷◌, ◌++◌, append_assoc}
+use Rattle.std.proofs.lemmas.List.{take_more}
 use Rattle.hs_base.specs.Walks.{join_after}
 use Rattle.base_laws.proofs.ListLemmas.{join_after-push}
-
--- a front gives no more
-pub length-join_after-take : {X Y : Type 0} (f : List X → X → List Y) (before xs : List X) (i : ℕ) → length (join_after f before (take i xs)) ≤ length (join_after f before xs)
-length-join_after-take f before xs zero = omega arith
-length-join_after-take f before [] (suc i) = omega arith
-length-join_after-take f before (x ∷ xs) (suc i) =
-    omega (arith, length-append (f before x) (join_after f (before ++ x ∷ []) (take i xs)), length-append (f before x) (join_after f (before ++ x ∷ []) xs), length-join_after-take f (before ++ x ∷ []) xs i)
 
 -- a front with the element that a loop reads behind it, where xs is the list that it goes over
 pub take-next : {X : Type 0} (xs ys : List X) (i : ℕ) (x : X) → ys ≡ xs → i < length ys → x ≡ get_or ys i x → take (i + 1) xs ≡ take i xs ++ x ∷ []

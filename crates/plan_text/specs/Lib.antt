@@ -1,7 +1,5 @@
-pub mod Named
 pub mod PlanReading
 pub mod Answers
 pub mod SoFar
 pub mod Loops
-pub mod Numbers
 pub mod Naming

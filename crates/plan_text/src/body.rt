@@ -1,21 +1,21 @@
 ghost use Rattle.std.specs.Prelude.{◌≡◌, ◌++◌, OnOk, flat_map};
 ghost use Rattle.hs_texts.specs.Written.{fix_line, token_line, support_line, goal_line, goal_lines, body_in};
 
-use crate::PointNames;
 use crate::parts::{push_number, push_point, push_signed, push_token, push_value, push_variable};
 use hs_base::{Extension, Kind, Memory, Mission, Support, Time, TokenRef};
 use hs_texts::Text;
+use plan_index::PlanIndex;
 
 fn push_fix(
     text: &mut Text,
     mission: &Mission,
-    names: &PointNames,
+    index: &PlanIndex,
     time: &Time,
 ) -> Result<(), Memory>
-    ensures { OnOk result (text.new ≡ text.old ++ fix_line mission.now names.now time.now) }
+    ensures { OnOk result (text.new ≡ text.old ++ fix_line mission.now index.now.points time.now) }
 {
     text.push_bytes(b"fix ")?;
-    push_point(text, mission, names, time.point)?;
+    push_point(text, mission, index, time.point)?;
     text.push_bytes(b" ")?;
     push_signed(text, time.at)?;
     text.push_bytes(b"\n")
@@ -24,13 +24,13 @@ fn push_fix(
 fn push_fixed(
     text: &mut Text,
     mission: &Mission,
-    names: &PointNames,
+    index: &PlanIndex,
     fixed: &[Time],
 ) -> Result<(), Memory>
-    ensures { OnOk result (text.new ≡ text.old ++ flat_map (fix_line mission.now names.now) fixed.now) }
+    ensures { OnOk result (text.new ≡ text.old ++ flat_map (fix_line mission.now index.now.points) fixed.now) }
 {
     for time in fixed {
-        push_fix(text, mission, names, time)?;
+        push_fix(text, mission, index, time)?;
     }
     Ok(())
 }
@@ -99,20 +99,20 @@ fn push_goals(text: &mut Text, mission: &Mission, tokens: &[TokenRef]) -> Result
     Ok(())
 }
 
-/// Puts the lines from `since` to `close` of an extension at the end, where `names` are the points
-/// of the plan that it extends.
+/// Puts the lines from `since` to `close` of an extension at the end, where the index is that of the
+/// plan that it extends.
 pub fn push_body(
     text: &mut Text,
     mission: &Mission,
-    names: &PointNames,
+    index: &PlanIndex,
     extension: &Extension,
 ) -> Result<(), Memory>
-    ensures { OnOk result (text.new ≡ text.old ++ body_in mission.now names.now extension.now) }
+    ensures { OnOk result (text.new ≡ text.old ++ body_in mission.now index.now.points extension.now) }
 {
     text.push_bytes(b"since ")?;
     push_signed(text, extension.since)?;
     text.push_bytes(b"\n")?;
-    push_fixed(text, mission, names, extension.fixed.as_slice())?;
+    push_fixed(text, mission, index, extension.fixed.as_slice())?;
     push_tokens(text, mission, extension.tokens.as_slice())?;
     push_supports(text, mission, extension.supports.as_slice())?;
     push_goals(text, mission, extension.goals.as_slice())?;

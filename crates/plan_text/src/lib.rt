@@ -3,10 +3,8 @@
 
 mod body;
 mod laws;
-mod names;
 mod naming;
 mod nets;
-mod numbers;
 mod parts;
 mod plans;
 mod read_body;
@@ -21,7 +19,6 @@ pub use laws::{
     a_plan_text_has_one_answer, a_plan_text_spells_one_plan, checked_plans_are_writable,
     plans_are_read, plans_are_read_back,
 };
-pub use names::{PointName, PointNames};
 pub use nets::{push_counts, write_net};
 pub use parts::{
     push_bound, push_bound_with, push_name, push_number, push_point, push_signed, push_variable,

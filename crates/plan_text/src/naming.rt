@@ -1,16 +1,14 @@
-ghost use Rattle.std.specs.Prelude.{◌≡◌, List, [], flat_map, length, IfOk};
+ghost use Rattle.std.specs.Prelude.{◌≡◌, ◌^◌, ◌<◌, List, [], flat_map, IfOk};
 ghost use Rattle.std.specs.List.{AllZip};
 ghost use Rattle.hs_base.specs.declared.plan.Extension.{Extension};
-ghost use Rattle.hs_base.specs.Points.{points_of};
 ghost use Rattle.hs_texts.specs.MissionMeaning.{IsNumberOf};
 ghost use Rattle.hs_texts.specs.MissionRefusals.{unknown_in};
 ghost use Rattle.hs_texts.specs.PlanSpelling.{names_of};
 ghost use Rattle.hs_texts.specs.PlanSpelling.{TokenMeans, KindMeans, PointMeans, TimeMeans, SupportMeans, ExtensionMeans, ExtensionsMean, unknown_in_point, unknown_in_time, unknown_in_kind, unknown_in_token, unknown_in_support, unknown_in_body, unknown_in_plan};
 ghost use Rattle.plan_text.specs.SoFar.{value_at as value_at_spec};
-ghost use Rattle.plan_text.specs.Numbers.{AreNumbers};
-ghost use Rattle.plan_text.specs.Naming.{Resolves};
+ghost use Rattle.plan_index.specs.Contents.{contents_of};
+ghost use Rattle.plan_text.specs.Naming.{Resolves, point_count};
 
-use crate::numbers::PointNumbers;
 use crate::written_plan::variable_at;
 use hs_base::{
     Copies, Extension, Kind, List, Memory, Mission, Name, Plan, PointId, Support, SvId, Time,
@@ -19,6 +17,7 @@ use hs_base::{
 use hs_texts::{
     Refusal, WrittenExtension, WrittenKind, WrittenPoint, WrittenSupport, WrittenTime, WrittenToken,
 };
+use plan_index::PlanIndex;
 use std::alloc::Global;
 
 /// Where the first value of this name stands.
@@ -85,18 +84,18 @@ fn token_of(alloc: Global, mission: &Mission, written: &WrittenToken) -> Result<
 fn point_of(
     alloc: Global,
     mission: &Mission,
-    numbers: &PointNumbers,
+    index: &PlanIndex,
     written: &WrittenPoint,
 ) -> Result<PointId, Refusal>
-    ensures { (es : List Extension) → AreNumbers (length mission.now.vars) (points_of es) numbers.now
+    ensures { (es : List Extension) → index.now ≡ contents_of es
         → Resolves result (unknown_in_point mission.now written.now) (λ p. PointMeans mission.now es written.now p.0) }
 {
     match written {
         WrittenPoint::Origin => Ok(PointId(0)),
-        WrittenPoint::Horizon(k) => Ok(numbers.horizon(*k)),
-        WrittenPoint::End(token) => {
-            let sv = sv_of(alloc, mission, &token.sv)?;
-            Ok(numbers.end(sv, token.place))
+        WrittenPoint::Horizon(k) => Ok(index.horizon(*k)),
+        WrittenPoint::End(end) => {
+            let token = token_of(alloc, mission, end)?;
+            Ok(index.end(token))
         }
     }
 }
@@ -105,14 +104,14 @@ fn point_of(
 fn time_of(
     alloc: Global,
     mission: &Mission,
-    numbers: &PointNumbers,
+    index: &PlanIndex,
     written: &WrittenTime,
 ) -> Result<Time, Refusal>
-    ensures { (es : List Extension) → AreNumbers (length mission.now.vars) (points_of es) numbers.now
+    ensures { (es : List Extension) → index.now ≡ contents_of es
         → Resolves result (unknown_in_time mission.now written.now) (TimeMeans mission.now es written.now) }
 {
     Ok(Time {
-        point: point_of(alloc, mission, numbers, &written.point)?,
+        point: point_of(alloc, mission, index, &written.point)?,
         at: written.at,
     })
 }
@@ -137,15 +136,15 @@ fn support_of(
 fn times_of(
     alloc: Global,
     mission: &Mission,
-    numbers: &PointNumbers,
+    index: &PlanIndex,
     written: &[WrittenTime],
 ) -> Result<List<Time>, Refusal>
-    ensures { (es : List Extension) → AreNumbers (length mission.now.vars) (points_of es) numbers.now
+    ensures { (es : List Extension) → index.now ≡ contents_of es
         → Resolves result (flat_map (unknown_in_time mission.now) written.now) (AllZip (TimeMeans mission.now es) written.now) }
 {
     let mut times = List::new(alloc);
     for time in written {
-        times.push(time_of(alloc, mission, numbers, time)?)?;
+        times.push(time_of(alloc, mission, index, time)?)?;
     }
     Ok(times)
 }
@@ -192,18 +191,18 @@ fn tokens_of(
     Ok(tokens)
 }
 
-/// The extension of the plan whose points have these numbers.
+/// The extension of the plan that is indexed.
 pub fn extension_of(
     alloc: Global,
     mission: &Mission,
-    numbers: &PointNumbers,
+    index: &PlanIndex,
     written: &WrittenExtension,
 ) -> Result<Extension, Refusal>
-    ensures { (es : List Extension) → AreNumbers (length mission.now.vars) (points_of es) numbers.now
+    ensures { (es : List Extension) → index.now ≡ contents_of es
         → Resolves result (unknown_in_body mission.now written.now.body) (ExtensionMeans mission.now es written.now) }
 {
     let body = &written.body;
-    let fixed = times_of(alloc, mission, numbers, body.fixed.as_slice())?;
+    let fixed = times_of(alloc, mission, index, body.fixed.as_slice())?;
     let tokens = kinds_of(alloc, mission, body.tokens.as_slice())?;
     let supports = supports_of(alloc, mission, body.supports.as_slice())?;
     let goals = tokens_of(alloc, mission, body.goals.as_slice())?;
@@ -223,13 +222,14 @@ pub fn plan_of(
     mission: &Mission,
     written: &[WrittenExtension],
 ) -> Result<Plan, Refusal>
+    requires { point_count written.now < 2 ^ 32 }
     ensures { Resolves result (unknown_in_plan mission.now written.now) (λ plan. ExtensionsMean mission.now [] written.now plan.extensions) }
 {
-    let mut numbers = PointNumbers::new(alloc, mission.vars.len())?;
+    let mut index = PlanIndex::new(alloc)?;
     let mut extensions = List::new(alloc);
     for one in written {
-        let extension = extension_of(alloc, mission, &numbers, one)?;
-        numbers.extend(&extension)?;
+        let extension = extension_of(alloc, mission, &index, one)?;
+        index.extend(&extension)?;
         extensions.push(extension)?;
     }
     Ok(Plan { extensions })

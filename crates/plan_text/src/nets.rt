@@ -2,10 +2,10 @@ ghost use Rattle.std.specs.Prelude.{◌≡◌, ◌++◌, ◌^◌, ◌<◌, IfOk,
 ghost use Rattle.hs_base.specs.Points.{count};
 ghost use Rattle.hs_texts.specs.NetText.{counts_text, member_line, group_lines, edge_line, net_text};
 
-use crate::PointNames;
 use crate::parts::{push_number, push_point, push_signed};
 use hs_base::{Bound, Group, Member, Memory, Mission, Net, Plan};
 use hs_texts::Text;
+use plan_index::PlanIndex;
 use std::alloc::Global;
 
 /// Puts the numbers of groups and edges at the end, as `groups 7 edges 14`.
@@ -21,13 +21,13 @@ pub fn push_counts(text: &mut Text, net: &Net) -> Result<(), Memory>
 fn push_member(
     text: &mut Text,
     mission: &Mission,
-    names: &PointNames,
+    index: &PlanIndex,
     member: &Member,
 ) -> Result<(), Memory>
-    ensures { OnOk result (text.new ≡ text.old ++ member_line mission.now names.now member.now) }
+    ensures { OnOk result (text.new ≡ text.old ++ member_line mission.now index.now.points member.now) }
 {
     text.push_bytes(b"member ")?;
-    push_point(text, mission, names, member.point)?;
+    push_point(text, mission, index, member.point)?;
     text.push_bytes(b" ")?;
     push_signed(text, member.offset)?;
     text.push_bytes(b"\n")
@@ -36,16 +36,16 @@ fn push_member(
 fn push_group(
     text: &mut Text,
     mission: &Mission,
-    names: &PointNames,
+    index: &PlanIndex,
     group: &Group,
 ) -> Result<(), Memory>
-    ensures { OnOk result (text.new ≡ text.old ++ group_lines mission.now names.now group.now) }
+    ensures { OnOk result (text.new ≡ text.old ++ group_lines mission.now index.now.points group.now) }
 {
     text.push_bytes(b"group ")?;
-    push_point(text, mission, names, group.leader)?;
+    push_point(text, mission, index, group.leader)?;
     text.push_bytes(b"\n")?;
     for member in group.members.as_slice() {
-        push_member(text, mission, names, member)?;
+        push_member(text, mission, index, member)?;
     }
     Ok(())
 }
@@ -53,13 +53,13 @@ fn push_group(
 fn push_groups(
     text: &mut Text,
     mission: &Mission,
-    names: &PointNames,
+    index: &PlanIndex,
     groups: &[Group],
 ) -> Result<(), Memory>
-    ensures { OnOk result (text.new ≡ text.old ++ flat_map (group_lines mission.now names.now) groups.now) }
+    ensures { OnOk result (text.new ≡ text.old ++ flat_map (group_lines mission.now index.now.points) groups.now) }
 {
     for group in groups {
-        push_group(text, mission, names, group)?;
+        push_group(text, mission, index, group)?;
     }
     Ok(())
 }
@@ -67,15 +67,15 @@ fn push_groups(
 fn push_edge(
     text: &mut Text,
     mission: &Mission,
-    names: &PointNames,
+    index: &PlanIndex,
     edge: &Bound,
 ) -> Result<(), Memory>
-    ensures { OnOk result (text.new ≡ text.old ++ edge_line mission.now names.now edge.now) }
+    ensures { OnOk result (text.new ≡ text.old ++ edge_line mission.now index.now.points edge.now) }
 {
     text.push_bytes(b"edge ")?;
-    push_point(text, mission, names, edge.from)?;
+    push_point(text, mission, index, edge.from)?;
     text.push_bytes(b" ")?;
-    push_point(text, mission, names, edge.to)?;
+    push_point(text, mission, index, edge.to)?;
     text.push_bytes(b" ")?;
     push_signed(text, edge.most)?;
     text.push_bytes(b"\n")
@@ -84,13 +84,13 @@ fn push_edge(
 fn push_edges(
     text: &mut Text,
     mission: &Mission,
-    names: &PointNames,
+    index: &PlanIndex,
     edges: &[Bound],
 ) -> Result<(), Memory>
-    ensures { OnOk result (text.new ≡ text.old ++ flat_map (edge_line mission.now names.now) edges.now) }
+    ensures { OnOk result (text.new ≡ text.old ++ flat_map (edge_line mission.now index.now.points) edges.now) }
 {
     for edge in edges {
-        push_edge(text, mission, names, edge)?;
+        push_edge(text, mission, index, edge)?;
     }
     Ok(())
 }
@@ -101,12 +101,12 @@ pub fn write_net(alloc: Global, mission: &Mission, plan: &Plan, net: &Net) -> Re
     ensures { IfOk result (λ text. text ≡ net_text mission.now plan.now.extensions net.now) }
 {
     let mut text = Text::new(alloc);
-    let names = PointNames::of(alloc, plan.extensions.as_slice())?;
+    let index = PlanIndex::of(alloc, plan.extensions.as_slice())?;
     text.push_bytes(b"hsts net 1\n")?;
     push_counts(&mut text, net)?;
     text.push_bytes(b"\n")?;
-    push_groups(&mut text, mission, &names, net.groups.as_slice())?;
-    push_edges(&mut text, mission, &names, net.edges.as_slice())?;
+    push_groups(&mut text, mission, &index, net.groups.as_slice())?;
+    push_edges(&mut text, mission, &index, net.edges.as_slice())?;
     text.push_bytes(b"end\n")?;
     Ok(text)
 }

@@ -1,11 +1,12 @@
-ghost use Rattle.std.specs.Prelude.{◌≡◌, ◌+◌, ◌^◌, ◌<◌, ◌++◌, length, OnOk};
+ghost use Rattle.std.specs.Prelude.{◌≡◌, ◌++◌, OnOk};
 ghost use Rattle.std.specs.Fmt.{decimal, signed_decimal};
 ghost use Rattle.hs_texts.specs.Written.{variable_name, value_name, spelled_point, point_in, token_text, bound_in};
-ghost use Rattle.plan_text.specs.Named.{named, with_extension};
+ghost use Rattle.plan_index.specs.Contents.{extended};
+ghost use Rattle.plan_index.specs.Named.{named};
 
-use crate::{PointName, PointNames};
 use hs_base::{Bound, Extension, Kind, Memory, Mission, PointId, SvId, TokenRef};
 use hs_texts::Text;
+use plan_index::{PlanIndex, PointName};
 
 /// Puts a number at the end, by its decimal digits.
 pub fn push_number(text: &mut Text, number: u64) -> Result<(), Memory>
@@ -77,12 +78,12 @@ pub fn push_name(text: &mut Text, mission: &Mission, name: PointName) -> Result<
 pub fn push_point(
     text: &mut Text,
     mission: &Mission,
-    names: &PointNames,
+    index: &PlanIndex,
     point: PointId,
 ) -> Result<(), Memory>
-    ensures { OnOk result (text.new ≡ text.old ++ point_in mission.now names.now point.0) }
+    ensures { OnOk result (text.new ≡ text.old ++ point_in mission.now index.now.points point.0) }
 {
-    match names.get(point) {
+    match index.name(point) {
         Some(name) => push_name(text, mission, name),
         None => Ok(()),
     }
@@ -92,14 +93,14 @@ pub fn push_point(
 pub fn push_bound(
     text: &mut Text,
     mission: &Mission,
-    names: &PointNames,
+    index: &PlanIndex,
     bound: &Bound,
 ) -> Result<(), Memory>
-    ensures { OnOk result (text.new ≡ text.old ++ bound_in mission.now names.now bound.now) }
+    ensures { OnOk result (text.new ≡ text.old ++ bound_in mission.now index.now.points bound.now) }
 {
-    push_point(text, mission, names, bound.from)?;
+    push_point(text, mission, index, bound.from)?;
     text.push_bytes(b" to ")?;
-    push_point(text, mission, names, bound.to)?;
+    push_point(text, mission, index, bound.to)?;
     text.push_bytes(b" most ")?;
     push_signed(text, bound.most)
 }
@@ -108,17 +109,16 @@ pub fn push_bound(
 pub fn push_bound_with(
     text: &mut Text,
     mission: &Mission,
-    names: &PointNames,
+    index: &PlanIndex,
     extension: &Extension,
     bound: &Bound,
 ) -> Result<(), Memory>
-    requires { length names.now + 1 < 2 ^ 32 }
     ensures { OnOk result (text.new
-        ≡ text.old ++ bound_in mission.now (with_extension names.now extension.now) bound.now) }
+        ≡ text.old ++ bound_in mission.now (extended index.now extension.now).points bound.now) }
 {
-    push_point_with(text, mission, names, extension, bound.from)?;
+    push_point_with(text, mission, index, extension, bound.from)?;
     text.push_bytes(b" to ")?;
-    push_point_with(text, mission, names, extension, bound.to)?;
+    push_point_with(text, mission, index, extension, bound.to)?;
     text.push_bytes(b" most ")?;
     push_signed(text, bound.most)
 }
@@ -126,15 +126,14 @@ pub fn push_bound_with(
 fn push_point_with(
     text: &mut Text,
     mission: &Mission,
-    names: &PointNames,
+    index: &PlanIndex,
     extension: &Extension,
     point: PointId,
 ) -> Result<(), Memory>
-    requires { length names.now + 1 < 2 ^ 32 }
     ensures { OnOk result (text.new
-        ≡ text.old ++ point_in mission.now (with_extension names.now extension.now) point.0) }
+        ≡ text.old ++ point_in mission.now (extended index.now extension.now).points point.0) }
 {
-    match names.get_with(extension, point) {
+    match index.name_with(extension, point) {
         Some(name) => push_name(text, mission, name),
         None => Ok(()),
     }

@@ -6,25 +6,25 @@ ghost use Rattle.hs_texts.specs.Written.{point_text as text_of_point};
 ghost use Rattle.text_laws.specs.WritablePlans.{IsWritablePlan};
 ghost use Rattle.hs_texts.specs.PlanSpelling.{PlanSpells};
 
-use crate::PointNames;
 use crate::body::push_body;
 use crate::parts::{push_number, push_point};
 use hs_base::{Extension, Memory, Mission, Plan, PointId};
 use hs_texts::Text;
+use plan_index::PlanIndex;
 use std::alloc::Global;
 
 fn push_extension(
     text: &mut Text,
     mission: &Mission,
-    names: &PointNames,
+    index: &PlanIndex,
     extension: &Extension,
 ) -> Result<(), Memory>
-    ensures { OnOk result (text.new ≡ text.old ++ extension_in mission.now names.now extension.now) }
+    ensures { OnOk result (text.new ≡ text.old ++ extension_in mission.now index.now.points extension.now) }
 {
     text.push_bytes(b"extension ")?;
     push_number(text, u64::from(extension.base) + 1)?;
     text.push_bytes(b"\n")?;
-    push_body(text, mission, names, extension)
+    push_body(text, mission, index, extension)
 }
 
 /// The text of a plan. A name that the mission doesn't have is left out.
@@ -39,11 +39,11 @@ pub fn write(alloc: Global, mission: &Mission, plan: &Plan) -> Result<Text, Memo
         → IfOk result (λ text. length text ≤ TEXT_BYTES → PlanSpells mission.now text 0 plan.now.extensions) }
 {
     let mut text = Text::new(alloc);
-    let mut names = PointNames::new(alloc)?;
+    let mut index = PlanIndex::new(alloc)?;
     text.push_bytes(b"hsts plan 1\n")?;
     for extension in plan.extensions.as_slice() {
-        push_extension(&mut text, mission, &names, extension)?;
-        names.extend(extension)?;
+        push_extension(&mut text, mission, &index, extension)?;
+        index.extend(extension)?;
     }
     text.push_bytes(b"end\n")?;
     Ok(text)
@@ -60,7 +60,7 @@ pub fn point_text(
     ensures { IfOk result (λ text. text ≡ text_of_point mission.now plan.now.extensions point.0) }
 {
     let mut text = Text::new(alloc);
-    let names = PointNames::of(alloc, plan.extensions.as_slice())?;
-    push_point(&mut text, mission, &names, point)?;
+    let index = PlanIndex::of(alloc, plan.extensions.as_slice())?;
+    push_point(&mut text, mission, &index, point)?;
     Ok(text)
 }

@@ -1,8 +1,10 @@
-ghost use Rattle.std.specs.Prelude.{◌≡◌, ◌-◌, ◌≤◌, ◌<◌, ◌^◌, length, map, MatchResult};
+ghost use Rattle.std.specs.Prelude.{◌≡◌, ◌-◌, ◌≤◌, ◌<◌, ◌^◌, length, map, IfOk, MatchResult};
 ghost use Rattle.hs_texts.specs.Pieces.{place_in};
 ghost use Rattle.text_laws.specs.Refused.{OrMemory};
 ghost use Rattle.ddl_read.specs.Spelled.{placed};
 ghost use Rattle.hs_texts.specs.PlanSpelling.{IsPlanText, IsTextRefusal};
+ghost use Rattle.hs_base.specs.declared.limits.TheConstants.{TEXT_BYTES};
+ghost use Rattle.plan_text.specs.Naming.{point_count};
 
 use crate::reader::PlanReader;
 use crate::stop::Stop;
@@ -19,14 +21,16 @@ fn place_before(pieces: &Pieces, count: usize, left: usize) -> u32
     pieces.place((count - left) as u32)
 }
 
-/// Reads a written plan from a piece on, to the end of the text.
+/// Reads a written plan from a piece on, to the end of the text. It has no more points than a text
+/// may have bytes.
 pub fn read_written(
     alloc: Global,
     mission: &Mission,
     pieces: &Pieces,
     from: u32,
 ) -> Result<List<WrittenExtension>, Refusal>
-    ensures { MatchResult result (IsPlanText mission.now pieces.now.bytes from) (OrMemory (IsTextRefusal mission.now pieces.now.bytes from)) }
+    ensures text { MatchResult result (IsPlanText mission.now pieces.now.bytes from) (OrMemory (IsTextRefusal mission.now pieces.now.bytes from)) }
+    ensures few { IfOk result (λ written. point_count written ≤ TEXT_BYTES) }
 {
     let count = pieces.as_slice().len();
     let mut reader = PlanReader::new(pieces.reader(from));

@@ -1,14 +1,10 @@
-use Rattle.std.proofs.Common.{length, take, ap, arith, codes, refl}
+use Rattle.std.proofs.Common.{take, ap, arith, codes, refl}
 use Rattle.std.proofs.lemmas.List.{length-take-le}
 use Rattle.hs_machine.specs.State.{plan_of}
 use Rattle.log_laws.specs.LogText.{deed_text, entry_text}
 use Rattle.plan_text.proofs.WalkLemmas.{join_after-next, take-next}
-use Rattle.journal_text.proofs.StandLemmas.{now_of-le, count-take, fewer-handed}
+use Rattle.journal_text.proofs.StandLemmas.{now_of-le, fewer-handed, fewer-horizons}
 use Rattle.journal_text.proofs.journal.write.Goals as goal
-
-pub push_deed-requires : goal.push_deed-requires
-push_deed-requires c =
-    omega (arith, ap length c.loop-entry.invariant.0.points_are, count-take c.args.history.now c.loop-entry.entry-index)
 
 pub take_in-requires-clause-time : goal.take_in-requires-clause-time
 take_in-requires-clause-time c =
@@ -22,7 +18,10 @@ take_in-requires-clause-fewer c = λ x handed.
     let h = c.args.history.now in
     let i = c.loop-entry.entry-index in
     let next = take-next h h i c.entry-item.result refl c.loop-entry-test.true c.entry-item.is in
-    fewer-handed h i c.entry-item.result c.loop-entry.progress.names x next c.loop-entry.invariant.0.points_are handed (omega arith)
+    fewer-handed h i c.entry-item.result c.loop-entry.progress.index x next c.loop-entry.invariant.0.index_is handed c.requires
+
+pub newest-requires : goal.newest-requires
+newest-requires c = fewer-horizons c.args.history.now c.loop-entry.entry-index c.loop-entry.progress.index c.loop-entry.invariant.0.index_is c.requires
 
 pub loop-entry-preserved : goal.loop-entry-preserved
 loop-entry-preserved c =
@@ -35,5 +34,5 @@ loop-entry-preserved c =
     let part = ap (λ now. deed_text m now (plan_of (take i h)) e.deed) stands.tick_is in
     let text =
     join_after-next (entry_text m) (take i h) e (codes "hsts log 1\n") c.loop-entry.text (deed_text m c.loop-entry.progress.tick (plan_of (take i h)) e.deed) c.push_deed.new.text c.loop-entry.invariant.1
-    (c.in_ok-push_deed.ensures (plan_of (take i h)) stands.points_are) part in
+    (c.in_ok-push_deed.ensures (plan_of (take i h)) stands.index_is) part in
     rw next (c.in_ok-take_in.ensures (take i h) stands, text)

@@ -6,5 +6,5 @@ use Rattle.journal_text.proofs.journal.write.Given as goal
 
 abbrev pub invariant-loop-entry : goal.invariant-loop-entry
 invariant-loop-entry l =
-    StandsAt l.progress.tick l.progress.names l.progress.newest (take l.entry-index l.history)
+    StandsAt l.progress.tick l.progress.index (take l.entry-index l.history)
     × (l.text ≡ codes "hsts log 1\n" ++ join_after (entry_text l.mission) [] (take l.entry-index l.history))

@@ -1,13 +1,13 @@
-use Rattle.std.proofs.Common.{◌<◌, length, refl}
-use Rattle.hs_base.specs.Points.{points_of}
-use Rattle.plan_text.proofs.NamingLemmas.{number_below}
+use Rattle.std.proofs.Common.{refl, ap, ◌∙◌}
+use Rattle.hs_base.specs.Points.{horizon, ending, place_of, points_of}
+use Rattle.plan_index.specs.Contents.{Contents, end_of}
 use Rattle.plan_text.proofs.naming.point_of.Goals as goal
 
 pub returns-in-Horizon : goal.returns-in-Horizon
-returns-in-Horizon c = λ es h. rw c.in-Horizon.is (refl, c.horizon.ensures (length c.args.mission.now.vars) (points_of es) h)
+returns-in-Horizon c = λ es h. rw c.in-Horizon.is (refl, c.horizon.ensures ∙ ap (λ (x : Contents). place_of (horizon c.in-Horizon.k) x.points) h)
 
-pub returns-in_ok-sv-in-End : goal.returns-in_ok-sv-in-End
-returns-in_ok-sv-in-End c = λ es h.
-    let named = c.in_ok-sv-in-End.ensures in
-    let below : c.in_ok-sv-in-End.sv.0 < length c.args.mission.now.vars = number_below c.args.mission.now c.in-End.token.sv c.in_ok-sv-in-End.sv.0 named.1 in
-    rw c.in-End.is (named.0, (c.in_ok-sv-in-End.sv.0, named.1, c.end.ensures (length c.args.mission.now.vars) (points_of es) below h))
+pub returns-in_ok-token-in-End : goal.returns-in_ok-token-in-End
+returns-in_ok-token-in-End c = λ es h.
+    let named = c.in_ok-token-in-End.ensures in
+    let t = c.in_ok-token-in-End.token in
+    rw c.in-End.is (named.0, (t.sv.0, named.1.sv, c.end.ensures ∙ ap (λ (x : Contents). place_of (end_of t) x.points) h ∙ ap (λ i. place_of (ending t.sv.0 i) (points_of es)) named.1.place))

@@ -5,6 +5,7 @@ use Rattle.ddl_read.proofs.CutLemmas.{few_pieces}
 use Rattle.plan_text.specs.PlanReading.{plan_at}
 use Rattle.hs_texts.specs.PlanGrammar.{PlanGrammar}
 use Rattle.plan_text.proofs.PlanReadLemmas.{plan_reads}
+use Rattle.plan_text.proofs.PointCountLemmas.{few_points}
 use Rattle.plan_text.proofs.SizeLemmas.{sized_plan}
 use Rattle.plan_text.proofs.ReadingLemmas.{left_of_read, left_of_stuck, left_of_broken, is_kept_text, is_trailing, is_expected, is_broken}
 use Rattle.plan_text.proofs.reading.read_written.Goals as goal
@@ -19,8 +20,8 @@ place_before-requires c =
     let there = left_of_read (PlanGrammar c.args.mission.now) (plan_at c.args.mission.now) (plan_reads c.args.mission.now) p.bytes c.args.from p.pieces _ _ (ap (plan_at c.args.mission.now) (sym begun) ∙ c.in-Ok.ensures) in
     (omega (arith, same, there, c.left-then-left-gt0.ensures), omega (arith, same, few))
 
-pub returns-then-left-gt0 : goal.returns-then-left-gt0
-returns-then-left-gt0 c =
+pub returns-then-left-gt0-clause-text : goal.returns-then-left-gt0-clause-text
+returns-then-left-gt0-clause-text c =
     let p = c.args.pieces.now in
     let begun = c.new-reader.ensures ∙ c.reader.ensures in
     let k : length c.as_slice-count.result.now - c.left-then-left-gt0.result ≡ length p.pieces - length c.plan.new.self = omega (arith, ap length c.as_slice-count.ensures.pieces, c.left-then-left-gt0.ensures) in
@@ -54,22 +55,28 @@ place_before-requires-in-Err-Pieces c =
     let there = left_of_broken (PlanGrammar c.args.mission.now) (plan_at c.args.mission.now) (plan_reads c.args.mission.now) (sized_plan c.args.mission.now) p.bytes c.args.from p.pieces _ c.in-Err-Pieces.size (ap (plan_at c.args.mission.now) (sym begun) ∙ (rw c.in-Err-Pieces.field-0-is at c.in-Err-Pieces.ensures)) in
     (omega (arith, same, there, c.left-in-Err-Pieces.ensures), omega (arith, same, few))
 
-pub returns-else-left-gt0 : goal.returns-else-left-gt0
-returns-else-left-gt0 c =
+pub returns-else-left-gt0-clause-text : goal.returns-else-left-gt0-clause-text
+returns-else-left-gt0-clause-text c =
     let p = c.args.pieces.now in
     let begun = c.new-reader.ensures ∙ c.reader.ensures in
     is_kept_text (PlanGrammar c.args.mission.now) (plan_at c.args.mission.now) (plan_reads c.args.mission.now) p.bytes c.args.from p.pieces _ c.in-Ok.extensions c.as_slice-count.ensures.cut (ap (plan_at c.args.mission.now) (sym begun) ∙ c.in-Ok.ensures) (omega (arith, c.if-left-gt0.false, c.left.ensures))
 
-pub returns-in-Err-Text : goal.returns-in-Err-Text
-returns-in-Err-Text c =
+pub returns-in-Err-Text-clause-text : goal.returns-in-Err-Text-clause-text
+returns-in-Err-Text-clause-text c =
     let p = c.args.pieces.now in
     let begun = c.new-reader.ensures ∙ c.reader.ensures in
     let k : length c.as_slice-count.result.now - c.left-in-Err-Text.result ≡ length p.pieces - length c.plan.new.self = omega (arith, ap length c.as_slice-count.ensures.pieces, c.left-in-Err-Text.ensures) in
     is_expected (PlanGrammar c.args.mission.now) (plan_at c.args.mission.now) (plan_reads c.args.mission.now) p.bytes c.args.from c.place_before-in-Err-Text.result p.pieces _ c.as_slice-count.ensures.cut (ap (plan_at c.args.mission.now) (sym begun) ∙ (rw c.in-Err-Text.field-0-is at c.in-Err-Text.ensures)) (c.place_before-in-Err-Text.ensures ∙ ap (place_in (length p.bytes) (map (placed p.bytes) p.pieces)) k)
 
-pub returns-in-Err-Pieces : goal.returns-in-Err-Pieces
-returns-in-Err-Pieces c =
+pub returns-in-Err-Pieces-clause-text : goal.returns-in-Err-Pieces-clause-text
+returns-in-Err-Pieces-clause-text c =
     let p = c.args.pieces.now in
     let begun = c.new-reader.ensures ∙ c.reader.ensures in
     let k : length c.as_slice-count.result.now - (c.left-in-Err-Pieces.result + c.in-Err-Pieces.size) ≡ length p.pieces - (length c.plan.new.self + c.in-Err-Pieces.size) = omega (arith, ap length c.as_slice-count.ensures.pieces, c.left-in-Err-Pieces.ensures) in
     is_broken (PlanGrammar c.args.mission.now) (plan_at c.args.mission.now) (plan_reads c.args.mission.now) (sized_plan c.args.mission.now) p.bytes c.args.from c.place_before-in-Err-Pieces.result c.in-Err-Pieces.size p.pieces _ c.as_slice-count.ensures.cut (ap (plan_at c.args.mission.now) (sym begun) ∙ (rw c.in-Err-Pieces.field-0-is at c.in-Err-Pieces.ensures)) (c.place_before-in-Err-Pieces.ensures ∙ ap (place_in (length p.bytes) (map (placed p.bytes) p.pieces)) k)
+
+pub returns-else-left-gt0-clause-few : goal.returns-else-left-gt0-clause-few
+returns-else-left-gt0-clause-few c =
+    let p = c.args.pieces.now in
+    let begun = c.new-reader.ensures ∙ c.reader.ensures in
+    few_points c.args.mission.now p.bytes c.args.from p.pieces _ c.in-Ok.extensions c.as_slice-count.ensures.cut (ap (plan_at c.args.mission.now) (sym begun) ∙ c.in-Ok.ensures)
