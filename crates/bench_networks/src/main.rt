@@ -1,5 +1,5 @@
 //! Times the distances of random networks and the filter of their edges: for each number of points
-//! that an argument names, from 2 to 2,048, one line.
+//! that an argument names, from 1 to 2,048, one line.
 #![tactic(auto)]
 
 mod networks;

@@ -4,13 +4,13 @@ ghost use Rattle.hs_base.specs.Bounds.{bounds_of};
 ghost use Rattle.hs_base.specs.Network.{Admits};
 ghost use Rattle.hs_base.specs.Reduced.{IsReducedOf};
 ghost use Rattle.hs_base.specs.Schedule.{Meets, Schedule};
-ghost use Rattle.hs_base.specs.Checked.{Checked, fixed_of as times_fixed_in};
 ghost use Rattle.stn_distance.specs.Distances.{IsDistOf};
 ghost use Rattle.edge_filter.specs.Reform.{IsReformed};
 
 use crate::network;
-use hs_base::{Extension, Memory, Mission, Net, Plan, Time};
+use hs_base::{Memory, Net, Time};
 use plan_check::CheckedPlan;
+use plan_index::PlanIndex;
 use std::alloc::Global;
 use std::marker::Model;
 use stn_distance::{Broken, Dist, close_fixed};
@@ -71,26 +71,28 @@ impl Reformed {
     }
 }
 
-/// The times that the extensions of a plan fix.
-fn fixed_of(alloc: Global, extensions: &[Extension]) -> Result<Vec<Time>, Memory>
-    ensures { IfOk result (λ fixed. fixed.items ≡ times_fixed_in extensions.now) }
+/// The times that a plan fixes, by its index.
+fn fixed_of(alloc: Global, index: &PlanIndex) -> Result<Vec<Time>, Memory>
+    ensures { IfOk result (λ fixed. fixed.items ≡ index.now.fixed) }
 {
     let mut fixed = Vec::new(alloc);
-    for extension in extensions {
-        fixed.extend_from_slice(extension.fixed.as_slice())?;
-    }
+    fixed.extend_from_slice(index.fixed())?;
     Ok(fixed)
 }
 
 /// The distances of a plan's points.
-fn distances(alloc: Global, mission: &Mission, plan: &Plan) -> Result<Dist, Memory>
-    requires { Checked mission.now plan.now.extensions }
-    ensures { IfOk result (IsDistOf (count plan.now.extensions) (bounds_of mission.now plan.now.extensions)) }
+fn distances(alloc: Global, plan: &CheckedPlan) -> Result<Dist, Memory>
+    ensures { IfOk result (IsDistOf (count plan.now.plan.extensions) (bounds_of plan.now.mission plan.now.plan.extensions)) }
 {
-    let bounds = bounds(alloc, mission, plan)?;
-    let mut fixed = fixed_of(alloc, plan.extensions.as_slice())?;
+    let bounds = bounds(alloc, plan.mission(), plan.plan())?;
+    let mut fixed = fixed_of(alloc, plan.index())?;
     fixed.sort_unstable_by_key(|time| time.point.0);
-    match close_fixed(alloc, points(plan), fixed.as_slice(), bounds.as_slice()) {
+    match close_fixed(
+        alloc,
+        points(plan.plan()),
+        fixed.as_slice(),
+        bounds.as_slice(),
+    ) {
         Ok(dist) => Ok(dist),
         Err(Broken::Memory) => Err(Memory),
         // The bounds of a checked plan have a schedule, so they have no negative cycle.
@@ -106,7 +108,7 @@ pub fn reform(alloc: Global, plan: CheckedPlan) -> Result<Reformed, Memory>
     ensures net { IfOk result (λ r. IsReducedOf (count plan.plan.extensions) (bounds_of plan.mission plan.plan.extensions) r.net) }
     ensures exact { IfOk result (λ r. (s : Schedule) → Admits r.net s ↔ Meets (bounds_of plan.mission plan.plan.extensions) s) }
 {
-    let dist = distances(alloc, plan.mission(), plan.plan())?;
+    let dist = distances(alloc, &plan)?;
     let net = network(alloc, &dist)?;
     Ok(Reformed { plan, dist, net })
 }

@@ -1,4 +1,5 @@
-//! Laws of flights: that they go on, are eager, and end by firing their horizon's point.
+//! Laws of flights: how they begin, that their plan is checked, and that they end by firing their
+//! horizon's point.
 #![tactic(auto)]
 
 mod flights;

@@ -1,4 +1,4 @@
-//! Handovers: a checked plan is made ready, tried against what was executed, and bound to it.
+//! Handovers: a checked plan is made ready to be executed, with all memory that this takes.
 #![tactic(auto)]
 
 mod offer;

@@ -1,4 +1,4 @@
-ghost use Rattle.std.specs.Prelude.{◌≡◌, ◌<◌, ◌^◌, map, IfOk};
+ghost use Rattle.std.specs.Prelude.{◌≡◌, map, IfOk};
 ghost use Rattle.hs_base.specs.Schedule.{numbers_from};
 ghost use Rattle.hs_base.specs.Points.{count, is_observed};
 ghost use Rattle.horizon_handover.specs.Offers.{IsLast};
@@ -6,19 +6,18 @@ ghost use Rattle.horizon_handover.specs.Offers.{IsLast};
 use crate::Offer;
 use dispatcher::Dispatch;
 use edge_filter::Reformed;
-use hs_base::{Copies, Extension, List, Memory, Mission, Plan, PointId, Time};
-use plan_index::PlanIndex;
+use hs_base::{Copies, Extension, List, Memory, Plan, PointId, Time};
+use plan_check::CheckedPlan;
 use std::alloc::Global;
 
 /// Which of the plan's points are observed.
-fn observed_of(alloc: Global, mission: &Mission, plan: &Plan) -> Result<List<bool>, Memory>
-    requires { count plan.now.extensions < 2 ^ 32 }
-    ensures { IfOk result (λ flags. flags ≡ map (λ x. is_observed mission.now plan.now.extensions x) (numbers_from 0 (count plan.now.extensions))) }
+fn observed_of(alloc: Global, plan: &CheckedPlan) -> Result<List<bool>, Memory>
+    ensures { IfOk result (λ flags. flags ≡ map (λ x. is_observed plan.now.mission plan.now.plan.extensions x) (numbers_from 0 (count plan.now.plan.extensions))) }
 {
-    let index = PlanIndex::of(alloc, plan.extensions.as_slice())?;
+    let index = plan.index();
     let mut flags = List::new(alloc);
     for x in 0..index.points() {
-        flags.push(index.is_observed(mission, PointId(x as u32)))?;
+        flags.push(index.is_observed(plan.mission(), PointId(x as u32)))?;
     }
     Ok(flags)
 }
@@ -39,7 +38,7 @@ pub fn prepare(alloc: Global, reformed: Reformed) -> Result<Offer, Memory>
     ensures net { IfOk result (λ o. o.net ≡ reformed.net) }
 {
     let (plan, dist, net) = reformed.into_parts();
-    let observed = observed_of(alloc, plan.mission(), plan.plan())?;
+    let observed = observed_of(alloc, &plan)?;
     let extension = last_of(alloc, plan.plan())?;
     let kept = net.copy(alloc)?;
     let origin = Time {

@@ -1,4 +1,5 @@
-//! hsts: prints a mission, checks a plan, or flies it and writes the log, as the words ask.
+//! hsts: prints a mission, checks a plan or finds one, writes its network, or flies it and writes
+//! the log, as the words ask.
 #![tactic(auto)]
 
 ghost use Rattle.std.specs.Prelude.{◌≡◌, vec_len, IfOk};

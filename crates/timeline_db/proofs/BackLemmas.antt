@@ -263,7 +263,7 @@ module _ (m : Mission) (b : Begun) (p : Partial) (fine : IsGood m b p) (board bo
   part_shown (Deferred t j) may h = token_kept (do_part p (Deferred t j)) t refl may.token h
 
 -- the last part of a Db
-module _ (m : Mission) (b : Begun) (tick : ℤ) (settled : ℕ) (board : Board) (front : List Step) (s : Step) (trail : Trailed) (d : IsDb m b tick settled board (front ++ s ∷ []) trail) where
+module _ (m : Mission) (b : Begun) (tick : ℤ) (board : Board) (front : List Step) (s : Step) (trail : Trailed) (d : IsDb m b tick board (front ++ s ∷ []) trail) where
   abbrev before : Partial
   before = shown_of m b front
 
@@ -292,13 +292,12 @@ module _ (m : Mission) (b : Begun) (tick : ℤ) (settled : ℕ) (board : Board) 
       omega (arith, mark, all, length-append (trail_parts m b (parts_of front)) (brought_by m b before (s.part ∷ [])))
 
   -- without it
-  pub db_back : (board' : Board) (trail' : Trailed) → TakesBack s.part board board' → Leaves s.mark trail trail' → IsDb m b tick settled board' front trail'
+  pub db_back : (board' : Board) (trail' : Trailed) → TakesBack s.part board board' → Leaves s.mark trail trail' → IsDb m b tick board' front trail'
   db_back board' trail' c leaves =
       let left = taken_back m b before fine board board' s.part allowed.1.0.0 allowed.1.0.1 shown c in
       record {
         begins = d.begins;
         horizon = d.horizon;
-        fixed = d.fixed;
         allowed = allowed.0;
         shows = left.shows;
         counts = left.counts;

@@ -70,13 +70,13 @@ module _ (i : Inside) (d : IsHeldIn i) (s : Planning) (seen : seen_in i ≡ s) w
     pub supported_in : (mid new : Draft) → mid.board ≡ i.draft.board → mid.course ≡ i.draft.course → mid.made.items ≡ kept_bounds i.base.mission (begun_in i) (partial_of (seen_in i)) (Supported x.token x.need x.by)
         → Takes (Supported x.token x.need x.by) 0 mid.made.items mid new → (es : List Extension) → es ≡ i.base.plan.extensions
         → Serves es x.token x.need (mid.board.supports.items ++ record { token = (token_of mid.board x.token).held; need = x.need; by = (token_of mid.board x.by).held } ∷ []) mid.board.deferred.items mid.board new.board
-        → IsDb i.base.mission (begun_in i) i.tick i.settled new.board new.course.steps.items new.course.trail
+        → IsDb i.base.mission (begun_in i) i.tick new.board new.course.steps.items new.course.trail
     supported_in mid new board course made takes es same c =
         let part = Supported x.token x.need x.by in
         let can = may_in i d s seen part may in
-        db_supported i.base.mission (begun_in i) i.tick i.settled i.draft.board new.board i.draft.course.steps.items new.course.steps.items i.draft.course.trail new.course.trail d x.token x.need x.by can
-        (mid_gains i.base.mission (begun_in i) i.tick i.settled i.draft mid d board course part can made 0 new takes)
-        (mid_steps i.base.mission (begun_in i) i.tick i.settled i.draft mid d board course part can made 0 new takes)
+        db_supported i.base.mission (begun_in i) i.tick i.draft.board new.board i.draft.course.steps.items new.course.steps.items i.draft.course.trail new.course.trail d x.token x.need x.by can
+        (mid_gains i.base.mission (begun_in i) i.tick i.draft mid d board course part can made 0 new takes)
+        (mid_steps i.base.mission (begun_in i) i.tick i.draft mid d board course part can made 0 new takes)
         (subst (λ (y : Board). Serves i.base.plan.extensions x.token x.need (y.supports.items ++ record { token = (token_of y x.token).held; need = x.need; by = (token_of y x.by).held } ∷ []) y.deferred.items y new.board) board
         (subst (λ (l : List Extension). Serves l x.token x.need (mid.board.supports.items ++ record { token = (token_of mid.board x.token).held; need = x.need; by = (token_of mid.board x.by).held } ∷ []) mid.board.deferred.items mid.board new.board) same c))
 
@@ -93,12 +93,12 @@ module _ (i : Inside) (d : IsHeldIn i) (s : Planning) (seen : seen_in i ≡ s) w
     pub deferred_in : (mid new : Draft) → mid.board ≡ i.draft.board → mid.course ≡ i.draft.course → mid.made.items ≡ []
         → Takes (Deferred t j) 0 mid.made.items mid new → (es : List Extension) → es ≡ i.base.plan.extensions
         → Serves es t j mid.board.supports.items (mid.board.deferred.items ++ record { stop = (token_of mid.board t).held.stop; need = j } ∷ []) mid.board new.board
-        → IsDb i.base.mission (begun_in i) i.tick i.settled new.board new.course.steps.items new.course.trail
+        → IsDb i.base.mission (begun_in i) i.tick new.board new.course.steps.items new.course.trail
     deferred_in mid new board course made takes es same c =
         let can = may_in i d s seen (Deferred t j) may in
-        db_deferred i.base.mission (begun_in i) i.tick i.settled i.draft.board new.board i.draft.course.steps.items new.course.steps.items i.draft.course.trail new.course.trail d t j can
-        (mid_gains i.base.mission (begun_in i) i.tick i.settled i.draft mid d board course (Deferred t j) can made 0 new takes)
-        (mid_steps i.base.mission (begun_in i) i.tick i.settled i.draft mid d board course (Deferred t j) can made 0 new takes)
+        db_deferred i.base.mission (begun_in i) i.tick i.draft.board new.board i.draft.course.steps.items new.course.steps.items i.draft.course.trail new.course.trail d t j can
+        (mid_gains i.base.mission (begun_in i) i.tick i.draft mid d board course (Deferred t j) can made 0 new takes)
+        (mid_steps i.base.mission (begun_in i) i.tick i.draft mid d board course (Deferred t j) can made 0 new takes)
         (subst (λ (y : Board). Serves i.base.plan.extensions t j y.supports.items (y.deferred.items ++ record { stop = (token_of y t).held.stop; need = j } ∷ []) y new.board) board
         (subst (λ (l : List Extension). Serves l t j mid.board.supports.items (mid.board.deferred.items ++ record { stop = (token_of mid.board t).held.stop; need = j } ∷ []) mid.board new.board) same c))
 
@@ -124,10 +124,10 @@ module _ (i : Inside) (d : IsHeldIn i) (s : Planning) (seen : seen_in i ≡ s) w
     pub met_in : (mid new : Draft) → mid.board ≡ i.draft.board → mid.course ≡ i.draft.course → mid.made.items ≡ kept_bounds i.base.mission (begun_in i) (partial_of (seen_in i)) (MetGoal g by)
         → Takes (MetGoal g by) 0 mid.made.items mid new
         → KeepsRows mid.board.supports.items (set mid.board.goals.items g (Some (token_of mid.board by).held)) mid.board.deferred.items mid.board new.board
-        → IsDb i.base.mission (begun_in i) i.tick i.settled new.board new.course.steps.items new.course.trail
+        → IsDb i.base.mission (begun_in i) i.tick new.board new.course.steps.items new.course.trail
     met_in mid new board course made takes k =
         let can = may_in i d s seen (MetGoal g by) may in
-        db_met i.base.mission (begun_in i) i.tick i.settled i.draft.board new.board i.draft.course.steps.items new.course.steps.items i.draft.course.trail new.course.trail d g by can
-        (mid_gains i.base.mission (begun_in i) i.tick i.settled i.draft mid d board course (MetGoal g by) can made 0 new takes)
-        (mid_steps i.base.mission (begun_in i) i.tick i.settled i.draft mid d board course (MetGoal g by) can made 0 new takes)
+        db_met i.base.mission (begun_in i) i.tick i.draft.board new.board i.draft.course.steps.items new.course.steps.items i.draft.course.trail new.course.trail d g by can
+        (mid_gains i.base.mission (begun_in i) i.tick i.draft mid d board course (MetGoal g by) can made 0 new takes)
+        (mid_steps i.base.mission (begun_in i) i.tick i.draft mid d board course (MetGoal g by) can made 0 new takes)
         (subst (λ (y : Board). KeepsRows y.supports.items (set y.goals.items g (Some (token_of y by).held)) y.deferred.items y new.board) board k)

@@ -62,16 +62,16 @@ starts_same [] k = refl
 starts_same (t ∷ ts) zero = refl
 starts_same (t ∷ ts) (suc k) = starts_same ts k
 
-module _ (m : Mission) (b : Begun) (tick : ℤ) (settled : ℕ) (board : Board) (steps : List Step) (trail : Trailed) (d : IsDb m b tick settled board steps trail) where
+module _ (m : Mission) (b : Begun) (tick : ℤ) (board : Board) (steps : List Step) (trail : Trailed) (d : IsDb m b tick board steps trail) where
   abbrev p : Partial
   p = shown_of m b steps
 
   -- the trail has a point, and room for no more than 131,072
   pub trail_points : (0 < points_of trail) × (points_of trail ≤ 131072)
   trail_points =
-      let e = points m b tick settled board steps trail d in
-      let f = few m b tick settled board steps trail d in
-      let above = (good m b tick settled board steps trail d).sound.above in
+      let e = points m b tick board steps trail d in
+      let f = few m b tick board steps trail d in
+      let above = (good m b tick board steps trail d).sound.above in
       (omega arith, omega arith)
 
   -- the next horizon is a time
@@ -91,7 +91,7 @@ module _ (m : Mission) (b : Begun) (tick : ℤ) (settled : ℕ) (board : Board) 
   token_in v i r is below =
       let c = get_or (cells r) i (given_cell nobody) in
       let here = slice_get-get_or (cells r) i (given_cell nobody) below in
-      ((cell_is m b tick settled board steps trail d v i r c is here).0, held_there m b tick settled board steps trail d v i r c is here)
+      ((cell_is m b tick board steps trail d v i r c is here).0, held_there m b tick board steps trail d v i r c is here)
 
   -- where a gap may be closed
   pub record CanJoin (v : SvId) (i : ℕ) : Type 0 where
@@ -103,7 +103,7 @@ module _ (m : Mission) (b : Begun) (tick : ℤ) (settled : ℕ) (board : Board) 
   pub can_join : (v : SvId) (i : ℕ) → MayDo m b p (Joined v i) → CanJoin v i
   can_join v i may =
       let inside = slice_get_within (cells may.row) (suc i) may.cell may.here in
-      let few = row_few m b p d.begins (good m b tick settled board steps trail d) v.0 may.row may.is_row in
+      let few = row_few m b p d.begins (good m b tick board steps trail d) v.0 may.row may.is_row in
       let x = token_in v.0 i may.row may.is_row (omega arith) in
       let y = token_in v.0 (suc i) may.row may.is_row inside in
       record {
@@ -122,14 +122,14 @@ module _ (m : Mission) (b : Begun) (tick : ℤ) (settled : ℕ) (board : Board) 
   pub can_finish : (v : SvId) → MayDo m b p (Finished v) → CanFinish v
   can_finish v may =
       let is = may.is_row in
-      let some = (row_at b 0 v.0 p.rows may.row (good m b tick settled board steps trail d).sound.rows is).some in
-      let size = size_is m b tick settled board steps trail d v.0 may.row is in
+      let some = (row_at b 0 v.0 p.rows may.row (good m b tick board steps trail d).sound.rows is).some in
+      let size = size_is m b tick board steps trail d v.0 may.row is in
       let ts = (line_at board v.0).tokens in
       let same : row p v.0 ≡ may.row = get_or_from_slice_get p.rows v.0 may.row no_row is in
-      let cells' : cells (row p v.0) ≡ map cell_of ts = ap cells same ∙ cells_are m b tick settled board steps trail d v.0 may.row is in
+      let cells' : cells (row p v.0) ≡ map cell_of ts = ap cells same ∙ cells_are m b tick board steps trail d v.0 may.row is in
       let end' : end_of ts ≡ last_stop 0 (cells (row p v.0)) = sym (last_is 0 ts (omega arith) 0) ∙ ap (last_stop 0) (sym cells') in
       record {
-        row = row_there m b tick settled board steps trail d v.0 may.row is;
+        row = row_there m b tick board steps trail d v.0 may.row is;
         some = omega arith;
         made = ap (λ (n : ℕ). bound n 0 (neg_ℤ (tick +ℤ pos 1)) ∷ []) end' ∙ ap (λ (z : ℤ). bound (last_stop 0 (cells (row p v.0))) 0 (neg_ℤ (z +ℤ pos 1)) ∷ []) d.horizon;
       }
@@ -157,7 +157,7 @@ module _ (m : Mission) (b : Begun) (tick : ℤ) (settled : ℕ) (board : Board) 
       let x = token_in v.0 i r is (omega arith) in
       let same : row p v.0 ≡ r = get_or_from_slice_get p.rows v.0 r no_row is in
       let ts = (line_at board v.0).tokens in
-      let cells' : cells (row p v.0) ≡ map cell_of ts = ap cells same ∙ cells_are m b tick settled board steps trail d v.0 r is in
+      let cells' : cells (row p v.0) ≡ map cell_of ts = ap cells same ∙ cells_are m b tick board steps trail d v.0 r is in
       let next : start_behind ts i ≡ start_from (cells (row p v.0)) (suc i) = sym (starts_same ts (suc i)) ∙ ap (λ (cs : List Cell). start_from cs (suc i)) (sym cells') in
       ap (λ (z : ℤ). kept_cell m z b.since (token_of board (at v.0 i)).held.stop c (start_behind ts i)) d.horizon
       ∙ ap (λ (h : Held). kept_cell m (tick_of m b) b.since h.stop c (start_behind ts i)) (sym x.1)
@@ -166,9 +166,9 @@ module _ (m : Mission) (b : Begun) (tick : ℤ) (settled : ℕ) (board : Board) 
   put_place : (v : SvId) (i : ℕ) (r : Row) → slice_get p.rows v.0 ≡ Some r → IsSlot i r → HasPlace board v.0 i × HasToken board (at v.0 i) × (suc i < 4294967296)
   put_place v i r is slot =
       let place = slot.place in
-      let few = row_few m b p d.begins (good m b tick settled board steps trail d) v.0 r is in
-      let there = slot_there m b tick settled board board steps steps trail trail d v.0 i r is slot in
-      (record { row = row_there m b tick settled board steps trail d v.0 r is; after = there.0; place = there.1 }, (token_in v.0 i r is (omega arith)).0, omega arith)
+      let few = row_few m b p d.begins (good m b tick board steps trail d) v.0 r is in
+      let there = slot_there m b tick board board steps steps trail trail d v.0 i r is slot in
+      (record { row = row_there m b tick board steps trail d v.0 r is; after = there.0; place = there.1 }, (token_in v.0 i r is (omega arith)).0, omega arith)
 
   moved : (w v : SvId) (j i : ℕ) (y c : Cell) (k grown : ℕ) (x : Part) → w ≡ v → j ≡ i → c ≡ y → grown ≡ k → CanPut w j y k x → CanPut v i c grown x
   moved w v j i y c k grown x e f g h can =
@@ -204,8 +204,8 @@ module _ (m : Mission) (b : Begun) (tick : ℤ) (settled : ℕ) (board : Board) 
   counts_few =
       let mission = d.begins.checked.mission.few_horizons in
       let left = slice_get_within m.horizons (length b.base) d.begins.horizon d.begins.is_horizon in
-      let g = good m b tick settled board steps trail d in
-      let few = few m b tick settled board steps trail d in
+      let g = good m b tick board steps trail d in
+      let few = few m b tick board steps trail d in
       let shown = ap (λ (q : Partial). q.points) d.shows in
       let total = d.counts.total in
       let all = all_few m b p d.begins g in
@@ -213,8 +213,8 @@ module _ (m : Mission) (b : Begun) (tick : ℤ) (settled : ℕ) (board : Board) 
 
   pub has_counts : has_room b p ≡ true → HasCounts
   has_counts room =
-      let g = good m b tick settled board steps trail d in
-      let e = points m b tick settled board steps trail d in
+      let g = good m b tick board steps trail d in
+      let e = points m b tick board steps trail d in
       let few = few_points m b p d.begins g.small room in
       let shown = ap (λ (q : Partial). q.points) d.shows in
       let added = d.counts.added in
@@ -224,30 +224,30 @@ module _ (m : Mission) (b : Begun) (tick : ℤ) (settled : ℕ) (board : Board) 
       record { points_few = omega arith; trail_few = omega arith; added_few = omega arith; total_few = omega arith }
 
 -- a token was put in
-pub db_put : (m : Mission) (b : Begun) (tick : ℤ) (settled : ℕ) (board board' : Board) (steps steps' : List Step) (trail trail' : Trailed) (d : IsDb m b tick settled board steps trail) (x : Part) (v : SvId) (i : ℕ) (c : Cell) (grown : ℕ) (t : Token)
+pub db_put : (m : Mission) (b : Begun) (tick : ℤ) (board board' : Board) (steps steps' : List Step) (trail trail' : Trailed) (d : IsDb m b tick board steps trail) (x : Part) (v : SvId) (i : ℕ) (c : Cell) (grown : ℕ) (t : Token)
     → MayDo m b (shown_of m b steps) x → has_room b (shown_of m b steps) ≡ true → IsPutting (shown_of m b steps) v i c grown x → cell_of t ≡ c → t.unmet ≡ 0 → t.needs ≡ length (needs_of m t.held.kind)
     → Gains (parts_with grown (kept_bounds m b (shown_of m b steps) x)) trail trail' → steps' ≡ steps ++ record { part = x; mark = length trail.parts } ∷ []
-    → Puts v.0 i t grown board board' → IsDb m b tick settled board' steps' trail'
-db_put m b tick settled board board' steps steps' trail trail' d (Inserted w j value) v i c grown t may room h cell none all gains is puts =
-    db_inserted m b tick settled board board' steps steps' trail trail' d w j value t may room (cell ∙ h.2) none all
+    → Puts v.0 i t grown board board' → IsDb m b tick board' steps' trail'
+db_put m b tick board board' steps steps' trail trail' d (Inserted w j value) v i c grown t may room h cell none all gains is puts =
+    db_inserted m b tick board board' steps steps' trail trail' d w j value t may room (cell ∙ h.2) none all
     (subst (λ (n : ℕ). Gains (parts_with n (kept_bounds m b (shown_of m b steps) (Inserted w j value))) trail trail') h.3 gains) is
     (subst (λ (u : SvId). Puts u.0 j t 2 board board') (sym h.0) (subst (λ (k : ℕ). Puts v.0 k t 2 board board') (sym h.1) (subst (λ (n : ℕ). Puts v.0 i t n board board') h.3 puts)))
-db_put m b tick settled board board' steps steps' trail trail' d (Followed w j value) v i c grown t may room h cell none all gains is puts =
-    db_followed m b tick settled board board' steps steps' trail trail' d w j value t may room (cell ∙ h.2) none all
+db_put m b tick board board' steps steps' trail trail' d (Followed w j value) v i c grown t may room h cell none all gains is puts =
+    db_followed m b tick board board' steps steps' trail trail' d w j value t may room (cell ∙ h.2) none all
     (subst (λ (n : ℕ). Gains (parts_with n (kept_bounds m b (shown_of m b steps) (Followed w j value))) trail trail') h.3 gains) is
     (subst (λ (u : SvId). Puts u.0 j t 1 board board') (sym h.0) (subst (λ (k : ℕ). Puts v.0 k t 1 board board') (sym h.1) (subst (λ (n : ℕ). Puts v.0 i t n board board') h.3 puts)))
-db_put m b tick settled board board' steps steps' trail trail' d (Joined w j) v i c grown t may room h cell none all gains is puts = absurd h
-db_put m b tick settled board board' steps steps' trail trail' d (Finished w) v i c grown t may room h cell none all gains is puts = absurd h
-db_put m b tick settled board board' steps steps' trail trail' d (Supported u j by) v i c grown t may room h cell none all gains is puts = absurd h
-db_put m b tick settled board board' steps steps' trail trail' d (MetGoal g by) v i c grown t may room h cell none all gains is puts = absurd h
-db_put m b tick settled board board' steps steps' trail trail' d (Deferred u j) v i c grown t may room h cell none all gains is puts = absurd h
+db_put m b tick board board' steps steps' trail trail' d (Joined w j) v i c grown t may room h cell none all gains is puts = absurd h
+db_put m b tick board board' steps steps' trail trail' d (Finished w) v i c grown t may room h cell none all gains is puts = absurd h
+db_put m b tick board board' steps steps' trail trail' d (Supported u j by) v i c grown t may room h cell none all gains is puts = absurd h
+db_put m b tick board board' steps steps' trail trail' d (MetGoal g by) v i c grown t may room h cell none all gains is puts = absurd h
+db_put m b tick board board' steps steps' trail trail' d (Deferred u j) v i c grown t may room h cell none all gains is puts = absurd h
 
 -- what a part changes, told of the draft before its bounds were made
-module _ (m : Mission) (b : Begun) (tick : ℤ) (settled : ℕ) (old mid : Draft) (d : IsDb m b tick settled old.board old.course.steps.items old.course.trail) (board : mid.board ≡ old.board) (course : mid.course ≡ old.course) (x : Part) (may : MayDo m b (shown_of m b old.course.steps.items) x) (made : mid.made.items ≡ kept_bounds m b (shown_of m b old.course.steps.items) x) where
+module _ (m : Mission) (b : Begun) (tick : ℤ) (old mid : Draft) (d : IsDb m b tick old.board old.course.steps.items old.course.trail) (board : mid.board ≡ old.board) (course : mid.course ≡ old.course) (x : Part) (may : MayDo m b (shown_of m b old.course.steps.items) x) (made : mid.made.items ≡ kept_bounds m b (shown_of m b old.course.steps.items) x) where
   pub mid_range : (grown : ℕ) → grown ≡ grown_by x → All (IsInRange (points_of mid.course.trail + grown)) mid.made.items
   mid_range grown e =
       subst (λ (c : Course). All (IsInRange (points_of c.trail + grown)) mid.made.items) (sym course)
-      (subst (λ (n : ℕ). All (IsInRange (points_of old.course.trail + n)) mid.made.items) (sym e) (range m b tick settled old.board old.course.steps.items old.course.trail d x mid.made.items may made))
+      (subst (λ (n : ℕ). All (IsInRange (points_of old.course.trail + n)) mid.made.items) (sym e) (range m b tick old.board old.course.steps.items old.course.trail d x mid.made.items may made))
 
   pub mid_gains : (grown : ℕ) (new : Draft) → Takes x grown mid.made.items mid new → Gains (parts_with grown (kept_bounds m b (shown_of m b old.course.steps.items) x)) old.course.trail new.course.trail
   mid_gains grown new takes =
@@ -259,19 +259,19 @@ module _ (m : Mission) (b : Begun) (tick : ℤ) (settled : ℕ) (old mid : Draft
 
   pub mid_shut : (e : Shut) → IfCycle e (HasNoSchedule (bounds_of mid.course.trail ++ mid.made.items)) → IfCycle e (HasSchedule m b (do_part (shown_of m b old.course.steps.items) x) → ⊥)
   mid_shut e h =
-      shut_told m b tick settled old.board old.course.steps.items old.course.trail d x mid.made.items e may made
+      shut_told m b tick old.board old.course.steps.items old.course.trail d x mid.made.items e may made
       (subst (λ (c : Course). IfCycle e (HasNoSchedule (bounds_of c.trail ++ mid.made.items))) course h)
 
   -- a draft in which nothing more has changed
-  pub mid_same : (new : Draft) → KeepsDraft mid new → IsDb m b tick settled new.board new.course.steps.items new.course.trail
+  pub mid_same : (new : Draft) → KeepsDraft mid new → IsDb m b tick new.board new.course.steps.items new.course.trail
   mid_same new keeps =
-      db_same m b tick settled mid.board new.board mid.course.steps.items new.course.steps.items mid.course.trail new.course.trail
-      (subst (λ (y : Board). IsDb m b tick settled y mid.course.steps.items mid.course.trail) (sym board) (subst (λ (c : Course). IsDb m b tick settled old.board c.steps.items c.trail) (sym course) d)) keeps.board keeps.trail keeps.steps
+      db_same m b tick mid.board new.board mid.course.steps.items new.course.steps.items mid.course.trail new.course.trail
+      (subst (λ (y : Board). IsDb m b tick y mid.course.steps.items mid.course.trail) (sym board) (subst (λ (c : Course). IsDb m b tick old.board c.steps.items c.trail) (sym course) d)) keeps.board keeps.trail keeps.steps
 
   pub mid_put : (v : SvId) (i : ℕ) (c : Cell) (grown : ℕ) (t : Token) (new : Draft) → has_room b (shown_of m b old.course.steps.items) ≡ true → IsPutting (shown_of m b old.course.steps.items) v i c grown x → cell_of t ≡ c → t.unmet ≡ 0 → t.needs ≡ length (needs_of m t.held.kind)
-      → Takes x grown mid.made.items mid new → Puts v.0 i t grown mid.board new.board → IsDb m b tick settled new.board new.course.steps.items new.course.trail
+      → Takes x grown mid.made.items mid new → Puts v.0 i t grown mid.board new.board → IsDb m b tick new.board new.course.steps.items new.course.trail
   mid_put v i c grown t new room puts cell none all takes p =
-      db_put m b tick settled old.board new.board old.course.steps.items new.course.steps.items old.course.trail new.course.trail d x v i c grown t may room puts cell none all
+      db_put m b tick old.board new.board old.course.steps.items new.course.steps.items old.course.trail new.course.trail d x v i c grown t may room puts cell none all
       (mid_gains grown new takes) (mid_steps grown new takes) (subst (λ (y : Board). Puts v.0 i t grown y new.board) board p)
 
 -- what a Db knew where its search began
@@ -284,7 +284,7 @@ seen_in i = record { mission = i.base.mission; begun = begun_in i; parts = parts
 
 -- what holds of its fields
 abbrev pub IsHeldIn : Inside → Type 0
-IsHeldIn i = IsDb i.base.mission (begun_in i) i.tick i.settled i.draft.board i.draft.course.steps.items i.draft.course.trail
+IsHeldIn i = IsDb i.base.mission (begun_in i) i.tick i.draft.board i.draft.course.steps.items i.draft.course.trail
 
 -- a token of that value that is joined to the one before it
 abbrev pub cell_behind : SvId → ValId → ℕ → ℕ → Cell
@@ -294,8 +294,8 @@ module _ (i : Inside) (d : IsHeldIn i) (s : Planning) (seen : seen_in i ≡ s) w
   pub room_in : has_room s.begun (partial_of s) ≡ true → has_room (begun_in i) (partial_of (seen_in i)) ≡ true
   room_in room = subst (λ (q : Planning). has_room q.begun (partial_of q) ≡ true) (sym seen) room
 
-  pub counts_in : has_room s.begun (partial_of s) ≡ true → HasCounts i.base.mission (begun_in i) i.tick i.settled i.draft.board i.draft.course.steps.items i.draft.course.trail d
-  counts_in room = has_counts i.base.mission (begun_in i) i.tick i.settled i.draft.board i.draft.course.steps.items i.draft.course.trail d (room_in room)
+  pub counts_in : has_room s.begun (partial_of s) ≡ true → HasCounts i.base.mission (begun_in i) i.tick i.draft.board i.draft.course.steps.items i.draft.course.trail d
+  counts_in room = has_counts i.base.mission (begun_in i) i.tick i.draft.board i.draft.course.steps.items i.draft.course.trail d (room_in room)
 
   module _ (x : Part) (may : MayDoNow s x) where
     pub may_in : MayDo i.base.mission (begun_in i) (partial_of (seen_in i)) x
@@ -303,10 +303,10 @@ module _ (i : Inside) (d : IsHeldIn i) (s : Planning) (seen : seen_in i ≡ s) w
 
     module _ (mid : Draft) (board : mid.board ≡ i.draft.board) (course : mid.course ≡ i.draft.course) (made : mid.made.items ≡ kept_bounds i.base.mission (begun_in i) (partial_of (seen_in i)) x) where
       pub shut_in : (e : Shut) → IfCycle e (HasNoSchedule (bounds_of mid.course.trail ++ mid.made.items)) → IfCycle e (WouldShut x s)
-      shut_in e h = subst (λ (q : Planning). IfCycle e (WouldShut x q)) seen (mid_shut i.base.mission (begun_in i) i.tick i.settled i.draft mid d board course x may_in made e h)
+      shut_in e h = subst (λ (q : Planning). IfCycle e (WouldShut x q)) seen (mid_shut i.base.mission (begun_in i) i.tick i.draft mid d board course x may_in made e h)
 
       pub range_in : (grown : ℕ) → grown ≡ grown_by x → All (IsInRange (points_of mid.course.trail + grown)) mid.made.items
-      range_in grown e = mid_range i.base.mission (begun_in i) i.tick i.settled i.draft mid d board course x may_in made grown e
+      range_in grown e = mid_range i.base.mission (begun_in i) i.tick i.draft mid d board course x may_in made grown e
 
       -- where the part brings no point
       pub range_still : 0 ≡ grown_by x → All (IsInRange (points_of mid.course.trail)) mid.made.items
@@ -316,44 +316,44 @@ module _ (i : Inside) (d : IsHeldIn i) (s : Planning) (seen : seen_in i ≡ s) w
       puts_in : IsPutting (partial_of (seen_in i)) v k c grown x
       puts_in = subst (λ (q : Planning). IsPutting (partial_of q) v k c grown x) (sym seen) puts
 
-      pub can_in : CanPut i.base.mission (begun_in i) i.tick i.settled i.draft.board i.draft.course.steps.items i.draft.course.trail d v k c grown x
-      can_in = can_put i.base.mission (begun_in i) i.tick i.settled i.draft.board i.draft.course.steps.items i.draft.course.trail d x v k c grown may_in puts_in
+      pub can_in : CanPut i.base.mission (begun_in i) i.tick i.draft.board i.draft.course.steps.items i.draft.course.trail d v k c grown x
+      can_in = can_put i.base.mission (begun_in i) i.tick i.draft.board i.draft.course.steps.items i.draft.course.trail d x v k c grown may_in puts_in
 
       pub made_in : (made : List Bound) (n : Mission) (y z : ℤ) → made ≡ kept_cell n y z (token_of i.draft.board (at v.0 k)).held.stop c (start_behind (line_at i.draft.board v.0).tokens k) → n ≡ i.base.mission → y ≡ i.tick → z ≡ i.since → made ≡ kept_bounds i.base.mission (begun_in i) (partial_of (seen_in i)) x
-      made_in made n y z is e f g = is ∙ made_by i.base.mission (begun_in i) i.tick i.settled i.draft.board i.draft.course.steps.items i.draft.course.trail d v k c grown x can_in n y z e f g
+      made_in made n y z is e f g = is ∙ made_by i.base.mission (begun_in i) i.tick i.draft.board i.draft.course.steps.items i.draft.course.trail d v k c grown x can_in n y z e f g
 
       pub put_in : (mid : Draft) → mid.board ≡ i.draft.board → mid.course ≡ i.draft.course → mid.made.items ≡ kept_bounds i.base.mission (begun_in i) (partial_of (seen_in i)) x
           → (t : Token) (new : Draft) → has_room s.begun (partial_of s) ≡ true → cell_of t ≡ c → t.unmet ≡ 0 → t.needs ≡ length (needs_of i.base.mission t.held.kind)
-          → Takes x grown mid.made.items mid new → Puts v.0 k t grown mid.board new.board → IsDb i.base.mission (begun_in i) i.tick i.settled new.board new.course.steps.items new.course.trail
-      put_in mid board course made t new room cell none all takes put = mid_put i.base.mission (begun_in i) i.tick i.settled i.draft mid d board course x may_in made v k c grown t new (room_in room) puts_in cell none all takes put
+          → Takes x grown mid.made.items mid new → Puts v.0 k t grown mid.board new.board → IsDb i.base.mission (begun_in i) i.tick new.board new.course.steps.items new.course.trail
+      put_in mid board course made t new room cell none all takes put = mid_put i.base.mission (begun_in i) i.tick i.draft mid d board course x may_in made v k c grown t new (room_in room) puts_in cell none all takes put
 
   -- a gap that may be closed
   module _ (v : SvId) (k : ℕ) (may : MayDoNow s (Joined v k)) where
-    pub can_join_in : CanJoin i.base.mission (begun_in i) i.tick i.settled i.draft.board i.draft.course.steps.items i.draft.course.trail d v k
-    can_join_in = can_join i.base.mission (begun_in i) i.tick i.settled i.draft.board i.draft.course.steps.items i.draft.course.trail d v k (may_in (Joined v k) may)
+    pub can_join_in : CanJoin i.base.mission (begun_in i) i.tick i.draft.board i.draft.course.steps.items i.draft.course.trail d v k
+    can_join_in = can_join i.base.mission (begun_in i) i.tick i.draft.board i.draft.course.steps.items i.draft.course.trail d v k (may_in (Joined v k) may)
 
     pub joined_in : (mid new : Draft) → mid.board ≡ i.draft.board → mid.course ≡ i.draft.course → mid.made.items ≡ kept_bounds i.base.mission (begun_in i) (partial_of (seen_in i)) (Joined v k)
-        → Takes (Joined v k) 0 mid.made.items mid new → ChangesRow v.0 (with_joined (suc k) true (line_at mid.board v.0)) mid.board new.board → IsDb i.base.mission (begun_in i) i.tick i.settled new.board new.course.steps.items new.course.trail
+        → Takes (Joined v k) 0 mid.made.items mid new → ChangesRow v.0 (with_joined (suc k) true (line_at mid.board v.0)) mid.board new.board → IsDb i.base.mission (begun_in i) i.tick new.board new.course.steps.items new.course.trail
     joined_in mid new board course made takes c =
-        db_joined i.base.mission (begun_in i) i.tick i.settled i.draft.board new.board i.draft.course.steps.items new.course.steps.items i.draft.course.trail new.course.trail d v k (may_in (Joined v k) may)
-        (mid_gains i.base.mission (begun_in i) i.tick i.settled i.draft mid d board course (Joined v k) (may_in (Joined v k) may) made 0 new takes)
-        (mid_steps i.base.mission (begun_in i) i.tick i.settled i.draft mid d board course (Joined v k) (may_in (Joined v k) may) made 0 new takes)
+        db_joined i.base.mission (begun_in i) i.tick i.draft.board new.board i.draft.course.steps.items new.course.steps.items i.draft.course.trail new.course.trail d v k (may_in (Joined v k) may)
+        (mid_gains i.base.mission (begun_in i) i.tick i.draft mid d board course (Joined v k) (may_in (Joined v k) may) made 0 new takes)
+        (mid_steps i.base.mission (begun_in i) i.tick i.draft mid d board course (Joined v k) (may_in (Joined v k) may) made 0 new takes)
         (subst (λ (y : Board). ChangesRow v.0 (with_joined (suc k) true (line_at y v.0)) y new.board) board c)
 
   -- a timeline that may be finished
   module _ (v : SvId) (may : MayDoNow s (Finished v)) where
-    pub can_finish_in : CanFinish i.base.mission (begun_in i) i.tick i.settled i.draft.board i.draft.course.steps.items i.draft.course.trail d v
-    can_finish_in = can_finish i.base.mission (begun_in i) i.tick i.settled i.draft.board i.draft.course.steps.items i.draft.course.trail d v (may_in (Finished v) may)
+    pub can_finish_in : CanFinish i.base.mission (begun_in i) i.tick i.draft.board i.draft.course.steps.items i.draft.course.trail d v
+    can_finish_in = can_finish i.base.mission (begun_in i) i.tick i.draft.board i.draft.course.steps.items i.draft.course.trail d v (may_in (Finished v) may)
 
     pub finish_made_in : (made : List Bound) (z : ℤ) → made ≡ bound (end_of (line_at i.draft.board v.0).tokens) 0 (neg_ℤ (z +ℤ pos 1)) ∷ [] → z ≡ i.tick → made ≡ kept_bounds i.base.mission (begun_in i) (partial_of (seen_in i)) (Finished v)
     finish_made_in made z is e = is ∙ ap (λ (y : ℤ). bound (end_of (line_at i.draft.board v.0).tokens) 0 (neg_ℤ (y +ℤ pos 1)) ∷ []) e ∙ can_finish_in.made
 
     pub finished_in : (mid new : Draft) → mid.board ≡ i.draft.board → mid.course ≡ i.draft.course → mid.made.items ≡ kept_bounds i.base.mission (begun_in i) (partial_of (seen_in i)) (Finished v)
-        → Takes (Finished v) 0 mid.made.items mid new → ChangesRow v.0 (record (line_at mid.board v.0) { finished = true }) mid.board new.board → IsDb i.base.mission (begun_in i) i.tick i.settled new.board new.course.steps.items new.course.trail
+        → Takes (Finished v) 0 mid.made.items mid new → ChangesRow v.0 (record (line_at mid.board v.0) { finished = true }) mid.board new.board → IsDb i.base.mission (begun_in i) i.tick new.board new.course.steps.items new.course.trail
     finished_in mid new board course made takes c =
-        db_finished i.base.mission (begun_in i) i.tick i.settled i.draft.board new.board i.draft.course.steps.items new.course.steps.items i.draft.course.trail new.course.trail d v (may_in (Finished v) may)
-        (mid_gains i.base.mission (begun_in i) i.tick i.settled i.draft mid d board course (Finished v) (may_in (Finished v) may) made 0 new takes)
-        (mid_steps i.base.mission (begun_in i) i.tick i.settled i.draft mid d board course (Finished v) (may_in (Finished v) may) made 0 new takes)
+        db_finished i.base.mission (begun_in i) i.tick i.draft.board new.board i.draft.course.steps.items new.course.steps.items i.draft.course.trail new.course.trail d v (may_in (Finished v) may)
+        (mid_gains i.base.mission (begun_in i) i.tick i.draft mid d board course (Finished v) (may_in (Finished v) may) made 0 new takes)
+        (mid_steps i.base.mission (begun_in i) i.tick i.draft mid d board course (Finished v) (may_in (Finished v) may) made 0 new takes)
         (subst (λ (y : Board). ChangesRow v.0 (record (line_at y v.0) { finished = true }) y new.board) board c)
 
   -- a place that a token may follow
@@ -361,13 +361,13 @@ module _ (i : Inside) (d : IsHeldIn i) (s : Planning) (seen : seen_in i ≡ s) w
     pub follow_there_in : HasToken i.draft.board (at v.0 k)
     follow_there_in =
         let h = (may_in (Followed v k value) may).insert in
-        (put_place i.base.mission (begun_in i) i.tick i.settled i.draft.board i.draft.course.steps.items i.draft.course.trail d v k h.row h.is_row h.slot).1
+        (put_place i.base.mission (begun_in i) i.tick i.draft.board i.draft.course.steps.items i.draft.course.trail d v k h.row h.is_row h.slot).1
 
     pub follow_cell_in : (t : Token) → t ≡ token_of i.draft.board (at v.0 k) → cell_behind v value t.held.stop i.draft.board.points ≡ joined_cell (partial_of s) v.0 k value.0
     follow_cell_in t is =
         let h = (may_in (Followed v k value) may).insert in
         let place = h.slot.place in
-        let held = (token_in i.base.mission (begun_in i) i.tick i.settled i.draft.board i.draft.course.steps.items i.draft.course.trail d v.0 k h.row h.is_row (omega arith)).1 in
+        let held = (token_in i.base.mission (begun_in i) i.tick i.draft.board i.draft.course.steps.items i.draft.course.trail d v.0 k h.row h.is_row (omega arith)).1 in
         ap (λ (u : Token). cell_behind v value u.held.stop i.draft.board.points) is
         ∙ ap (λ (u : Held). cell_behind v value u.stop i.draft.board.points) (sym held)
         ∙ ap (λ (q : Partial). cell_behind v value (held_at (partial_of (seen_in i)) v.0 k).stop q.points) d.shows
@@ -375,14 +375,14 @@ module _ (i : Inside) (d : IsHeldIn i) (s : Planning) (seen : seen_in i ≡ s) w
 
 -- the trail has a point, and room for no more than 131,072
 pub points_in : (i : Inside) → IsHeldIn i → (0 < points_of i.draft.course.trail) × (points_of i.draft.course.trail ≤ 131072)
-points_in i d = trail_points i.base.mission (begun_in i) i.tick i.settled i.draft.board i.draft.course.steps.items i.draft.course.trail d
+points_in i d = trail_points i.base.mission (begun_in i) i.tick i.draft.board i.draft.course.steps.items i.draft.course.trail d
 
 -- how few points, tokens and extensions there are
 pub few_in : (i : Inside) → IsHeldIn i → (i.draft.board.points ≤ 131072) × (i.draft.board.total ≤ 2048000) × (length i.base.plan.extensions ≤ 1000)
-few_in i d = counts_few i.base.mission (begun_in i) i.tick i.settled i.draft.board i.draft.course.steps.items i.draft.course.trail d
+few_in i d = counts_few i.base.mission (begun_in i) i.tick i.draft.board i.draft.course.steps.items i.draft.course.trail d
 
 -- there is a row for each variable
 pub rows_in : (i : Inside) → IsHeldIn i → length i.draft.board.lines.items ≡ length i.base.mission.vars
 rows_in i d =
     sym (length-map' row_of i.draft.board.lines.items) ∙ ap (λ (q : Partial). length q.rows) d.shows
-    ∙ (good i.base.mission (begun_in i) i.tick i.settled i.draft.board i.draft.course.steps.items i.draft.course.trail d).sound.one_each
+    ∙ (good i.base.mission (begun_in i) i.tick i.draft.board i.draft.course.steps.items i.draft.course.trail d).sound.one_each

@@ -216,7 +216,7 @@ pub unclaimed_parts : (m : Mission) (b : Begun) (p : Partial) (xs : List Part) �
 unclaimed_parts m b p [] may h = h
 unclaimed_parts m b p (x ∷ xs) may h = unclaimed_parts m b (do_part p x) xs may.1 (unclaimed_part m b p x may.0.0 h)
 
-module _ (m : Mission) (b : Begun) (tick : ℤ) (settled : ℕ) (board : Board) (steps : List Step) (trail : Trailed) (d : IsDb m b tick settled board steps trail) where
+module _ (m : Mission) (b : Begun) (tick : ℤ) (board : Board) (steps : List Step) (trail : Trailed) (d : IsDb m b tick board steps trail) where
   abbrev plan : Partial
   plan = do_parts (begin m b) (parts_of steps)
 
@@ -240,7 +240,7 @@ module _ (m : Mission) (b : Begun) (tick : ℤ) (settled : ℕ) (board : Board) 
   -- a token of the plan that is extended has no support, unless it is its timeline's last
   none_early : (v i : ℕ) (r : Row) (c : Cell) → slice_get plan.rows v ≡ Some r → slice_get (cells r) i ≡ Some c → suc i < length r.given → supports_at m plan v i c ≡ []
   none_early v i r c is here less =
-      let row = row_at b 0 v plan.rows r (good_db m b tick settled board steps trail d).sound.rows is in
+      let row = row_at b 0 v plan.rows r (good_db m b tick board steps trail d).sound.rows is in
       let line = timeline_of (tokens_of b.base) (0 + v) in
       let given : r.given ≡ held_from b (0 + v) 0 line = row.given in
       let size : length r.given ≡ length line = ap (λ (l : List Held). length l) given ∙ length-held b (0 + v) 0 line in
@@ -259,8 +259,8 @@ module _ (m : Mission) (b : Begun) (tick : ℤ) (settled : ℕ) (board : Board) 
   -- the supports of a line are those of its row
   late_are : (v : ℕ) (s : Shown) → slice_get board.lines.items v ≡ Some s → late_supports m plan v s ≡ flat_map_from (supports_at m plan v) 0 (cells (row_of s))
   late_are v s is =
-      let line = line_db m b tick settled board steps trail d v s is in
-      let row = row_db m b tick settled board steps trail d v s is in
+      let line = line_db m b tick board steps trail d v s is in
+      let row = row_db m b tick board steps trail d v s is in
       let cs : cells (row_of s) ≡ map cell_of s.tokens = cells-row s line.joined in
       let zero_plus : 0 + (s.given - 1) ≡ s.given - 1 = omega arith in
       let many = given_shown s line in
@@ -279,8 +279,8 @@ module _ (m : Mission) (b : Begun) (tick : ℤ) (settled : ℕ) (board : Board) 
   -- the rows can be searched for a token
   pub lines_there : AreShort board.lines.items
   lines_there v s is =
-      let size = size_db m b tick settled board steps trail d v s is in
-      (line_db m b tick settled board steps trail d v s is, omega (arith, size.1))
+      let size = size_db m b tick board steps trail d v s is in
+      (line_db m b tick board steps trail d v s is, omega (arith, size.1))
 
   -- an extension with what was found is that of the partial plan
   pub extension_is : (e : Extension) → e.base ≡ length b.base → e.since ≡ b.since → e.fixed ≡ b.fixed → e.tokens ≡ flat_map (λ (s : Shown). map (λ (t : Token). t.held.kind) (drop s.given s.tokens)) board.lines.items → e.supports ≡ flat_map_from (late_supports m (pictured board)) 0 board.lines.items → e.goals ≡ flat_map (λ o. on_some o (λ x. ref_of (pictured board) x ∷ [])) board.goals.items → e ≡ extension m b plan

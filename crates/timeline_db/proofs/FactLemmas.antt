@@ -132,7 +132,7 @@ all_fit n (x ∷ bs) h = λ k d l. at (all_fit n bs h.1) k d l
     at rest zero d l = record { from_below = h.0.from; to_below = h.0.to; low = h.0.least; high = h.0.most }
     at rest (suc k) d l = rest k d (omega arith)
 
-module _ (m : Mission) (b : Begun) (tick : ℤ) (settled : ℕ) (board : Board) (steps : List Step) (trail : Trailed) (d : IsDb m b tick settled board steps trail) where
+module _ (m : Mission) (b : Begun) (tick : ℤ) (board : Board) (steps : List Step) (trail : Trailed) (d : IsDb m b tick board steps trail) where
   abbrev pub p : Partial
   p = shown_of m b steps
 

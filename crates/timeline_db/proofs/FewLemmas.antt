@@ -56,7 +56,7 @@ goals_few m b may =
     let few = (horizon_is m (length b.base) may.horizon may.checked.mission may.is_horizon).few_goals in
     omega (arith, same, few, length-map' (λ (g : Goal). let o : Option Held = None in o) (goals_of m (number b)))
 
-module _ (m : Mission) (b : Begun) (tick : ℤ) (settled : ℕ) (board : Board) (steps : List Step) (trail : Trailed) (d : IsDb m b tick settled board steps trail) where
+module _ (m : Mission) (b : Begun) (tick : ℤ) (board : Board) (steps : List Step) (trail : Trailed) (d : IsDb m b tick board steps trail) where
   abbrev pub plan : Partial
   plan = do_parts (begin m b) (parts_of steps)
 

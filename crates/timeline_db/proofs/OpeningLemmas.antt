@@ -19,7 +19,7 @@ use Rattle.base_laws.proofs.ListLemmas.{each_split, snoc_induction}
 use Rattle.base_laws.proofs.PointLemmas.{count_is, tokens-push}
 use Rattle.plan_laws.proofs.InsideLemmas.{each_from}
 use Rattle.plan_check.proofs.WithinLemmas.{fixed-push}
-use Rattle.plan_check.specs.Fixing.{AreFlags}
+use Rattle.plan_index.specs.Named.{has_time}
 use Rattle.plan_check.specs.Planned.{Planned}
 use Rattle.plan_laws.specs.Fit.{IsFit}
 use Rattle.search_tree.proofs.CellLemmas.{stub_count}
@@ -44,60 +44,12 @@ use Rattle.timeline_db.specs.Lines.{Shown, cell_of, row_of}
 use Rattle.timeline_db.specs.Opening.{line_bounds}
 use Rattle.timeline_db.specs.declared.board.Board.{Board}
 use Rattle.timeline_db.specs.declared.course.Step.{Step}
-use Rattle.token_net.specs.Rows.{since_rows}
 use Rattle.plan_check.proofs.SupportLemmas.{any-append}
 use Rattle.hs_base.specs.Missions.{IsHorizon, IsMission}
 use Rattle.plan_check.proofs.WithinLemmas.{none_checked}
 
--- entries that rise are no more than the number that they stay below
-rising_few : (es : List Extension) (e : Extension) (ts : List Time) → EachAfter (KeepsFixedAt es e) [] ts → (n : ℕ) → AllByRecursion (λ (t : Time). t.point.0 < n) ts → length ts ≤ n
-rising_few es e ts h = snoc_induction (λ (l : List Time). (n : ℕ) → AllByRecursion (λ (t : Time). t.point.0 < n) l → length l ≤ n) (KeepsFixedAt es e) step [] ts (λ n g. omega arith) h
-  where
-    step : (before : List Time) (t : Time) → KeepsFixedAt es e before t → ((n : ℕ) → AllByRecursion (λ (t : Time). t.point.0 < n) before → length before ≤ n) → (n : ℕ) → AllByRecursion (λ (t : Time). t.point.0 < n) (before ++ t ∷ []) → length (before ++ t ∷ []) ≤ n
-    step before t r p n g =
-        let s = each_split (λ (t : Time). t.point.0 < n) before (t ∷ []) g in
-        let low = p t.point.0 r.rising in
-        let top = s.1.0 in
-        omega (arith, low, top, length-append before (t ∷ []))
-
 pub fixed_below : (es : List Extension) (e : Extension) (ts : List Time) → EachAfter (KeepsFixedAt es e) [] ts → AllByRecursion (λ (t : Time). t.point.0 < count es) ts
 fixed_below es e ts h = each_from (KeepsFixedAt es e) (λ (t : Time). t.point.0 < count es) (λ b t f. f.below) [] ts h
-
-pub fixed_few : (es : List Extension) (e : Extension) (ts : List Time) → EachAfter (KeepsFixedAt es e) [] ts → length ts ≤ count es
-fixed_few es e ts h = rising_few es e ts h (count es) (fixed_below es e ts h)
-
-module _ (m : Mission) (few : length m.horizons ≤ 1000) where
-  abbrev AreFew : List Extension → Type 0
-  AreFew es = (length es ≤ length m.horizons) × (length (tokens_of es) ≤ length es * 128) × (length (fixed_of es) ≤ length es * 200000)
-
-  more_few : (before : List Extension) (e : Extension) → KeepsRules m before e → AreFew before → AreFew (before ++ e ∷ [])
-  more_few before e r k =
-      let left = (base_kept r).horizon_left in
-      let tokens = (limits_kept r).tokens in
-      let size = length-append before (e ∷ []) in
-      let many = ap length (tokens-push before e) ∙ length-append (tokens_of before) e.tokens in
-      let more = ap length (fixed-push before e) ∙ length-append (fixed_of before) e.fixed in
-      let fixed = fixed_few before e e.fixed (fixed_kept r).each in
-      let old = k.1 in
-      let older = k.2 in
-      (omega (arith, left, size), omega (arith, tokens, size, many, old), omega (arith, fixed, size, more, older, old, count_is before, few, left))
-
-  -- a plan fixes no more points than can be counted
-  pub fixed_counted : (es : List Extension) → EachAfter (KeepsRules m) [] es → length (fixed_of es) ≤ 200000000
-  fixed_counted es r =
-      let f = snoc_induction AreFew (KeepsRules m) more_few [] es (omega arith, omega arith, omega arith) r in
-      let a = f.0 in
-      let b = f.2 in
-      omega (arith, a, b, few)
-
--- one more extension fixes its points too
-pub flags_more : (es : List Extension) (e : Extension) (flags : List Bool) → ((x : ℕ) → get_or flags x false ≡ (is_fixed es x || list_any (λ (t : Time). nat_eq t.point.0 x) e.fixed)) → AreFlags (es ++ e ∷ []) flags
-flags_more es e flags h = λ x.
-    h x ∙ sym (any-append (λ (e : Extension). list_any (λ (t : Time). nat_eq t.point.0 x) e.fixed) es (e ∷ []) ∙ ap (λ (c : Bool). is_fixed es x || c) (or_false (list_any (λ (t : Time). nat_eq t.point.0 x) e.fixed)))
-  where
-    or_false : (c : Bool) → (c || false) ≡ c
-    or_false true = refl
-    or_false false = refl
 
 flat_same : {X Y : Type 0} (f g : X → List Y) (xs : List X) → ((x : X) → f x ≡ g x) → flat_map f xs ≡ flat_map g xs
 flat_same f g [] h = refl
@@ -118,31 +70,25 @@ whole_fits z h = to_z-of_z w64 z (omega (arith, ints, h.0, h.1))
 
 module _ (m : Mission) (b : Begun) (may : MayBegin m b) where
   -- what is known without a new token
-  pub begun_is : (mark : ℕ) (tick : ℤ) (flags : List Bool) → mark ≡ count b.base → tick ≡ tick_of m b → AreFlags (stub b) flags → length flags ≡ mark + 1
-      → bounds_of m b.base ++ exactly mark tick ++ apart mark 0 whole ++ fixed_bounds b.fixed ++ since_rows flags (length flags) b.since ≡ begun_bounds m b
-  begun_is mark tick flags is_mark is_tick marked size =
+  begun_is : (mark : ℕ) (tick : ℤ) → mark ≡ count b.base → tick ≡ tick_of m b → bounds_of m b.base ++ exactly mark tick ++ apart mark 0 whole ++ fixed_bounds b.fixed ++ since_bounds (stub b) b.since ≡ begun_bounds m b
+  begun_is mark tick is_mark is_tick =
       let less : number b - 1 ≡ length b.base = omega arith in
       let is : slice_get m.horizons (number b - 1) ≡ Some may.horizon = ap (slice_get m.horizons) less ∙ may.is_horizon in
       let one : exactly mark tick ≡ horizon_bounds m (stub b) (number b) =
       ap (λ (x : ℕ). exactly x tick) (is_mark ∙ sym (newest_is b)) ∙ ap (exactly (newest b)) (is_tick ∙ tick_is m b may)
       ∙ sym (ap (λ (o : Option Horizon). on_some o (λ (h : Horizon). exactly (newest b) h.tick)) is) in
       let two : apart mark 0 whole ≡ point_bounds (count b.base) 1 = ap (λ (x : ℕ). apart x 0 whole) is_mark in
-      let wide : length flags - 1 ≡ count (stub b) - 1 = omega (arith, size, is_mark, stub_count b) in
-      let three : since_rows flags (length flags) b.since ≡ since_bounds (stub b) b.since =
-      flat_same (λ (x : ℕ). cond (get_or flags x false) [] (bound x 0 (neg_ℤ b.since) ∷ [])) (λ (x : ℕ). cond (is_fixed (stub b) x) [] (bound x 0 (neg_ℤ b.since) ∷ [])) (numbers_from 1 (length flags - 1)) (λ x. ap (λ (c : Bool). cond c [] (bound x 0 (neg_ℤ b.since) ∷ [])) (marked x))
-      ∙ ap (λ (n : ℕ). flat_map (λ (x : ℕ). cond (is_fixed (stub b) x) [] (bound x 0 (neg_ℤ b.since) ∷ [])) (numbers_from 1 n)) wide in
-      ap (λ (l : List Bound). bounds_of m b.base ++ l ++ apart mark 0 whole ++ fixed_bounds b.fixed ++ since_rows flags (length flags) b.since) one
-      ∙ ap (λ (l : List Bound). bounds_of m b.base ++ horizon_bounds m (stub b) (number b) ++ l ++ fixed_bounds b.fixed ++ since_rows flags (length flags) b.since) two
-      ∙ ap (λ (l : List Bound). bounds_of m b.base ++ horizon_bounds m (stub b) (number b) ++ point_bounds (count b.base) 1 ++ fixed_bounds b.fixed ++ l) three
+      ap (λ (l : List Bound). bounds_of m b.base ++ l ++ apart mark 0 whole ++ fixed_bounds b.fixed ++ since_bounds (stub b) b.since) one
+      ∙ ap (λ (l : List Bound). bounds_of m b.base ++ horizon_bounds m (stub b) (number b) ++ l ++ fixed_bounds b.fixed ++ since_bounds (stub b) b.since) two
 
   -- as they are made
-  pub begun_made : (mark : ℕ) (tick since : ℤ) (flags : List Bool) (fixed : List Time) (one two three four five : List Bound) → mark ≡ count b.base → tick ≡ tick_of m b → since ≡ b.since → fixed ≡ b.fixed → AreFlags (stub b) flags → length flags ≡ mark + 1
-      → one ≡ bounds_of m b.base → two ≡ one ++ exactly mark tick → three ≡ two ++ apart mark 0 whole → four ≡ three ++ fixed_bounds fixed → five ≡ four ++ since_rows flags (length flags) since → five ≡ begun_bounds m b
-  begun_made mark tick since flags fixed one two three four five is_mark is_tick is_since is_fixed marked size a c d e f =
-      f ∙ ap (λ (z : ℤ). four ++ since_rows flags (length flags) z) is_since
-      ∙ ap (λ (l : List Bound). l ++ since_rows flags (length flags) b.since)
+  pub begun_made : (mark : ℕ) (tick : ℤ) (fixed : List Time) (one two three four five : List Bound) → mark ≡ count b.base → tick ≡ tick_of m b → fixed ≡ b.fixed
+      → one ≡ bounds_of m b.base → two ≡ one ++ exactly mark tick → three ≡ two ++ apart mark 0 whole → four ≡ three ++ fixed_bounds fixed → five ≡ four ++ since_bounds (stub b) b.since → five ≡ begun_bounds m b
+  begun_made mark tick fixed one two three four five is_mark is_tick is_fixed a c d e f =
+      f
+      ∙ ap (λ (l : List Bound). l ++ since_bounds (stub b) b.since)
       (e ∙ ap (λ (l : List Time). three ++ fixed_bounds l) is_fixed ∙ ap (λ (l : List Bound). l ++ fixed_bounds b.fixed) (d ∙ ap (λ (l : List Bound). l ++ apart mark 0 whole) (c ∙ ap (λ (l : List Bound). l ++ exactly mark tick) a)))
-      ∙ begun_is mark tick flags is_mark is_tick marked size
+      ∙ begun_is mark tick is_mark is_tick
 
   -- the bounds of new tokens
   line_is : (s : Shown) → line_bounds m (newest b) b.since s ≡ flat_map (λ (c : Cell). token_bounds m b c.held) (row_of s).added
@@ -172,12 +118,11 @@ module _ (m : Mission) (b : Begun) (may : MayBegin m b) where
       at_least (e ∷ es) = omega arith
 
   -- a search begins with no part done
-  pub db_begun : (tick : ℤ) (settled : ℕ) (board : Board) (trail : Trailed) → tick ≡ tick_of m b → settled ≡ length (fixed_of b.base) + length b.fixed → AreOutset m b board.lines.items → pictured board ≡ begin m b → IsCounted (begin m b) board
-      → trail.first ≡ board.points → trail.parts ≡ map (λ c. Added c) (root_bounds m b (begin m b)) → IsDb m b tick settled board [] trail
-  db_begun tick settled board trail is_tick is_settled outset shows counts first parts = record {
+  pub db_begun : (tick : ℤ) (board : Board) (trail : Trailed) → tick ≡ tick_of m b → AreOutset m b board.lines.items → pictured board ≡ begin m b → IsCounted (begin m b) board
+      → trail.first ≡ board.points → trail.parts ≡ map (λ c. Added c) (root_bounds m b (begin m b)) → IsDb m b tick board [] trail
+  db_begun tick board trail is_tick outset shows counts first parts = record {
     begins = may;
     horizon = is_tick;
-    fixed = is_settled;
     allowed = tt;
     shows = shows;
     counts = counts;
@@ -186,15 +131,15 @@ module _ (m : Mission) (b : Begun) (may : MayBegin m b) where
   }
 
   -- the same of copies
-  pub db_copied : (p : Planned) (since tick : ℤ) (fixed : List Time) (settled : ℕ) (board : Board) (steps : List Step) (trail : Trailed) → p.mission ≡ m → p.plan.extensions ≡ b.base → since ≡ b.since → fixed ≡ b.fixed → tick ≡ tick_of m b → settled ≡ length (fixed_of b.base) + length b.fixed
+  pub db_copied : (p : Planned) (since tick : ℤ) (fixed : List Time) (board : Board) (steps : List Step) (trail : Trailed) → p.mission ≡ m → p.plan.extensions ≡ b.base → since ≡ b.since → fixed ≡ b.fixed → tick ≡ tick_of m b
       → AreOutset m b board.lines.items → pictured board ≡ begin m b → IsCounted (begin m b) board → trail.first ≡ board.points → trail.parts ≡ map (λ c. Added c) (root_bounds m b (begin m b)) → steps ≡ []
-      → IsDb p.mission (record { base = p.plan.extensions; since = since; fixed = fixed }) tick settled board steps trail
-  db_copied p since tick fixed settled board steps trail is_m is_base is_since is_fixed is_tick is_settled outset shows counts first parts none =
-      subst (λ (x : Mission). IsDb x (record { base = p.plan.extensions; since = since; fixed = fixed }) tick settled board steps trail) (sym is_m)
-      (subst (λ (es : List Extension). IsDb m (record { base = es; since = since; fixed = fixed }) tick settled board steps trail) (sym is_base)
-      (subst (λ (z : ℤ). IsDb m (record { base = b.base; since = z; fixed = fixed }) tick settled board steps trail) (sym is_since)
-      (subst (λ (ts : List Time). IsDb m (record { base = b.base; since = b.since; fixed = ts }) tick settled board steps trail) (sym is_fixed)
-      (subst (λ (l : List Step). IsDb m b tick settled board l trail) (sym none) (db_begun tick settled board trail is_tick is_settled outset shows counts first parts)))))
+      → IsDb p.mission (record { base = p.plan.extensions; since = since; fixed = fixed }) tick board steps trail
+  db_copied p since tick fixed board steps trail is_m is_base is_since is_fixed is_tick outset shows counts first parts none =
+      subst (λ (x : Mission). IsDb x (record { base = p.plan.extensions; since = since; fixed = fixed }) tick board steps trail) (sym is_m)
+      (subst (λ (es : List Extension). IsDb m (record { base = es; since = since; fixed = fixed }) tick board steps trail) (sym is_base)
+      (subst (λ (z : ℤ). IsDb m (record { base = b.base; since = z; fixed = fixed }) tick board steps trail) (sym is_since)
+      (subst (λ (ts : List Time). IsDb m (record { base = b.base; since = b.since; fixed = ts }) tick board steps trail) (sym is_fixed)
+      (subst (λ (l : List Step). IsDb m b tick board l trail) (sym none) (db_begun tick board trail is_tick outset shows counts first parts)))))
 
   pub open_copied : (p : Planned) (since : ℤ) (fixed : List Time) (steps : List Step) → p.mission ≡ m → p.plan.extensions ≡ b.base → since ≡ b.since → fixed ≡ b.fixed → steps ≡ []
       → HasSchedule p.mission (record { base = p.plan.extensions; since = since; fixed = fixed }) (do_parts (begin p.mission (record { base = p.plan.extensions; since = since; fixed = fixed })) (parts_of steps))

@@ -24,8 +24,10 @@ use Rattle.search_tree.specs.Flaws.{is_served}
 use Rattle.search_tree.specs.Partial.{Row, at, begin, first_cells, first_row, held_from}
 use Rattle.search_tree.specs.declared.held.Cell.{Cell}
 use Rattle.search_tree.specs.declared.held.Held.{Held}
+use Rattle.plan_index.proofs.IndexLemmas.{start_is}
+use Rattle.plan_index.specs.Contents.{contents_of, start_at as start_among}
 use Rattle.timeline_db.proofs.LayingLemmas.{laid, laid_at, length-laid, set_here}
-use Rattle.timeline_db.specs.Laying.{AreFirst, AreLaidOf, AreOutset, IsFirstUnclaimed, NotesAll, NotesLast, first_token, laid_from, laid_line, start_among}
+use Rattle.timeline_db.specs.Laying.{AreFirst, AreLaid, AreOutset, IsFirstUnclaimed, NotesAll, NotesLast, first_token, laid_from, laid_line}
 use Rattle.timeline_db.specs.Lines.{Shown, cell_of, nothing_held, row_of, with_needs}
 use Rattle.timeline_db.specs.Tracked.{IsLine, IsTracked}
 use Rattle.timeline_db.specs.declared.token.Token.{Token}
@@ -81,14 +83,10 @@ line_laid tokens names v = record {
   joined = joined_laid names v 0 (length (timeline_of tokens v)) (timeline_of tokens v);
 }
 
-start_is : (es : List Extension) (v i : ℕ) → start_among (points_of es) v i ≡ start_at es v i
-start_is es v zero = refl
-start_is es v (suc i) = refl
-
 held_laid : (b : Begun) (v i : ℕ) (ks : List Kind) → map (λ (t : Token). t.held) (laid_from (points_of b.base) v i ks) ≡ held_from b v i ks
 held_laid b v i [] = refl
 held_laid b v i (k ∷ ks) =
-    ap (λ (x : ℕ). let h : Held = record { kind = k; start = x; stop = stop b.base (at v i) } in h ∷ map (λ (t : Token). t.held) (laid_from (points_of b.base) v (suc i) ks)) (start_is b.base v i)
+    ap (λ (x : ℕ). let h : Held = record { kind = k; start = x; stop = stop b.base (at v i) } in h ∷ map (λ (t : Token). t.held) (laid_from (points_of b.base) v (suc i) ks)) (start_is (contents_of b.base) b.base (at v i) refl)
     ∙ ap (λ (l : List Held). let h : Held = record { kind = k; start = start_at b.base v i; stop = stop b.base (at v i) } in h ∷ l) (held_laid b v (suc i) ks)
 
 take_whole : {X : Type 0} (xs : List X) (n : ℕ) → length xs ≡ n → take n xs ≡ xs
@@ -301,7 +299,7 @@ module _ (m : Mission) (b : Begun) (checked : Checked m b.base) where
       by k is' (inr h) = subst (IsTracked m b (begin m b)) (sym h.1.2) (late k h.1.0 is' h.1.1)
 
 -- the lines of a plan, noted, are the rows with which a search begins
-pub outset_later : (m : Mission) (b : Begun) (old lines : List Shown) → Checked m b.base → (b.base ≡ [] → ⊥) → AreLaidOf (length m.vars) b.base old → NotesAll m b.base old lines → AreOutset m b lines
+pub outset_later : (m : Mission) (b : Begun) (old lines : List Shown) → Checked m b.base → (b.base ≡ [] → ⊥) → AreLaid (length m.vars) (tokens_of b.base) (points_of b.base) old → NotesAll m b.base old lines → AreOutset m b lines
 outset_later m b old lines checked some laid notes = record {
   rows = rows_by lines 0 (length m.vars) (first_row m b) (notes.size ∙ laid.size) (λ v r is. let f = from v r is in let zero_plus : v ≡ 0 + v = omega arith in row_noted m b.base v r f ∙ row_laid b v ∙ given_row b.base refl v ∙ ap (first_row m b) zero_plus);
   tracked = record {

@@ -37,19 +37,18 @@ abbrev pub shown_of : Mission → Begun → List Step → Partial
 shown_of m b steps = do_parts (begin m b) (parts_of steps)
 
 -- one part more
-pub db_done : (m : Mission) (b : Begun) (tick : ℤ) (settled : ℕ) (board board' : Board) (steps steps' : List Step) (trail trail' : Trailed) (x : Part)
-    → IsDb m b tick settled board steps trail → MayDo m b (shown_of m b steps) x → HasRoom b (shown_of m b steps) x
+pub db_done : (m : Mission) (b : Begun) (tick : ℤ) (board board' : Board) (steps steps' : List Step) (trail trail' : Trailed) (x : Part)
+    → IsDb m b tick board steps trail → MayDo m b (shown_of m b steps) x → HasRoom b (shown_of m b steps) x
     → Gains (parts_with (grown_by x) (kept_bounds m b (shown_of m b steps) x)) trail trail' → steps' ≡ steps ++ record { part = x; mark = length trail.parts } ∷ []
     → pictured board' ≡ do_part (shown_of m b steps) x → IsCounted (do_part (shown_of m b steps) x) board' → AreTracked m b (do_part (shown_of m b steps) x) board'.lines.items
-    → IsDb m b tick settled board' steps' trail'
-db_done m b tick settled board board' steps steps' trail trail' x d may room gains is shows counts tracked =
+    → IsDb m b tick board' steps' trail'
+db_done m b tick board board' steps steps' trail trail' x d may room gains is shows counts tracked =
     let s : Step = record { part = x; mark = length trail.parts } in
     let parts : parts_of steps' ≡ parts_of steps ++ x ∷ [] = ap parts_of is ∙ parts-push steps s in
     let now : shown_of m b steps' ≡ do_part (shown_of m b steps) x = ap (do_parts (begin m b)) parts ∙ do_parts-append (begin m b) (parts_of steps) (x ∷ []) in
     record {
       begins = d.begins;
       horizon = d.horizon;
-      fixed = d.fixed;
       allowed = subst (AreAllowed m b (begin m b)) (sym parts) (allowed-push m b (begin m b) (parts_of steps) x d.allowed may room);
       shows = shows ∙ sym now;
       counts = subst (λ (p : Partial). IsCounted p board') (sym now) counts;

@@ -99,7 +99,7 @@ module _ (m : Mission) (b : Begun) (begins : MayBegin m b) (p q : Partial) (fine
     | inr other ↦ subst (IsCounted q) (sym (c.same other)) k
   ]
 
-module _ (m : Mission) (b : Begun) (tick : ℤ) (settled : ℕ) (board board' : Board) (steps steps' : List Step) (trail trail' : Trailed) (d : IsDb m b tick settled board steps trail) where
+module _ (m : Mission) (b : Begun) (tick : ℤ) (board board' : Board) (steps steps' : List Step) (trail trail' : Trailed) (d : IsDb m b tick board steps trail) where
   abbrev p : Partial
   p = shown_of m b steps
 
@@ -111,10 +111,10 @@ module _ (m : Mission) (b : Begun) (tick : ℤ) (settled : ℕ) (board board' : 
       → (record { rows = p.rows; supports = supports; goals = p.goals; deferred = deferred; points = p.points }) ≡ do_part p x
       → ((y : Held) (k : ℕ) → is_served b (do_part p x) y k ≡ (is_served b p y k || (nat_eq (held_by p t).stop y.stop && nat_eq j k)))
       → IsThere p t → j < length (needs_of m (held_by p t).kind) → is_served b p (held_by p t) j ≡ false
-      → Serves b.base t j supports deferred board board' → IsDb m b tick settled board' steps' trail'
+      → Serves b.base t j supports deferred board board' → IsDb m b tick board' steps' trail'
   db_settled x t j supports deferred may room rows gains is does one there less yet c =
       let q = do_part p x in
-      let fine = good m b tick settled board steps trail d in
+      let fine = good m b tick board steps trail d in
       let fine' = good_part m b p x may room fine in
       let at = token_there t there in
       let with_it = c.with_it in
@@ -133,14 +133,14 @@ module _ (m : Mission) (b : Begun) (tick : ℤ) (settled : ℕ) (board board' : 
         added = c.keeps.added ∙ d.counts.added ∙ ap (λ (rs : List Row). length (flat_map (λ (r : Row). r.added) rs)) (sym rows);
         total = c.keeps.total ∙ d.counts.total ∙ ap (λ (rs : List Row). length (flat_map cells rs)) (sym rows);
       } in
-      db_done m b tick settled board board' steps steps' trail trail' x d may room gains is
+      db_done m b tick board board' steps steps' trail trail' x d may room gains is
       (settled_shows m b d.begins p q fine fine' rows t j with_it board' shows tracked has one' c.settles)
       (settled_counts m b d.begins p q fine fine' rows t j with_it board' shows tracked has one' c.settles counts)
       (settled_tracked m b d.begins p q fine fine' rows t j with_it board' shows tracked has one' c.settles counted)
 
   -- a need is served
   pub db_supported : (t : TokenRef) (j : ℕ) (by : TokenRef) → MayDo m b p (Supported t j by) → Gains (parts_with 0 (kept_bounds m b p (Supported t j by))) trail trail' → steps' ≡ steps ++ record { part = Supported t j by; mark = length trail.parts } ∷ []
-      → Serves b.base t j (board.supports.items ++ record { token = (token_of board t).held; need = j; by = (token_of board by).held } ∷ []) board.deferred.items board board' → IsDb m b tick settled board' steps' trail'
+      → Serves b.base t j (board.supports.items ++ record { token = (token_of board t).held; need = j; by = (token_of board by).held } ∷ []) board.deferred.items board board' → IsDb m b tick board' steps' trail'
   db_supported t j by may gains is c =
       let supports = board.supports.items ++ record { token = (token_of board t).held; need = j; by = (token_of board by).held } ∷ [] in
       let does : (record { rows = p.rows; supports = supports; goals = p.goals; deferred = board.deferred.items; points = p.points }) ≡ do_part p (Supported t j by) =
@@ -151,7 +151,7 @@ module _ (m : Mission) (b : Begun) (tick : ℤ) (settled : ℕ) (board board' : 
 
   -- or left
   pub db_deferred : (t : TokenRef) (j : ℕ) → MayDo m b p (Deferred t j) → Gains (parts_with 0 (kept_bounds m b p (Deferred t j))) trail trail' → steps' ≡ steps ++ record { part = Deferred t j; mark = length trail.parts } ∷ []
-      → Serves b.base t j board.supports.items (board.deferred.items ++ record { stop = (token_of board t).held.stop; need = j } ∷ []) board board' → IsDb m b tick settled board' steps' trail'
+      → Serves b.base t j board.supports.items (board.deferred.items ++ record { stop = (token_of board t).held.stop; need = j } ∷ []) board board' → IsDb m b tick board' steps' trail'
   db_deferred t j may gains is c =
       let deferred = board.deferred.items ++ record { stop = (token_of board t).held.stop; need = j } ∷ [] in
       let does : (record { rows = p.rows; supports = board.supports.items; goals = p.goals; deferred = deferred; points = p.points }) ≡ do_part p (Deferred t j) =
@@ -161,7 +161,7 @@ module _ (m : Mission) (b : Begun) (tick : ℤ) (settled : ℕ) (board board' : 
 
   -- a goal has its token
   pub db_met : (g : ℕ) (by : TokenRef) → MayDo m b p (MetGoal g by) → Gains (parts_with 0 (kept_bounds m b p (MetGoal g by))) trail trail' → steps' ≡ steps ++ record { part = MetGoal g by; mark = length trail.parts } ∷ []
-      → KeepsRows board.supports.items (set board.goals.items g (Some (token_of board by).held)) board.deferred.items board board' → IsDb m b tick settled board' steps' trail'
+      → KeepsRows board.supports.items (set board.goals.items g (Some (token_of board by).held)) board.deferred.items board board' → IsDb m b tick board' steps' trail'
   db_met g by may gains is k =
       let q = do_part p (MetGoal g by) in
       let shows : pictured board' ≡ q =
@@ -169,4 +169,4 @@ module _ (m : Mission) (b : Begun) (tick : ℤ) (settled : ℕ) (board board' : 
       ∙ ap (λ (z : Held). let r : Partial = record { rows = (pictured board).rows; supports = board.supports.items; goals = set board.goals.items g (Some z); deferred = board.deferred.items; points = board.points } in r) (sym (token_there by may.server).1)
       ∙ ap (λ (r : Partial). let z : Partial = record { rows = r.rows; supports = r.supports; goals = set r.goals g (Some (held_by p by)); deferred = r.deferred; points = r.points } in z) d.shows in
       let tracked : AreTracked m b q board.lines.items = record { line = d.tracked.line; each = λ v i s t at here. same_tracked m b p q t (λ i. refl) (d.tracked.each v i s t at here) } in
-      db_done m b tick settled board board' steps steps' trail trail' (MetGoal g by) d may tt gains is shows (record { added = k.added ∙ d.counts.added; total = k.total ∙ d.counts.total }) (subst (AreTracked m b q) (sym k.lines) tracked)
+      db_done m b tick board board' steps steps' trail trail' (MetGoal g by) d may tt gains is shows (record { added = k.added ∙ d.counts.added; total = k.total ∙ d.counts.total }) (subst (AreTracked m b q) (sym k.lines) tracked)

@@ -42,24 +42,24 @@ with_parts p l = record { mission = p.mission; begun = p.begun; parts = l }
 module _ (i : Inside) (d : IsHeldIn i) where
   -- a Db with its last step apart
   apart : (s : Step) → slice_get i.draft.course.steps.items (length i.draft.course.steps.items - 1) ≡ Some s
-      → IsDb i.base.mission (begun_in i) i.tick i.settled i.draft.board (take (length i.draft.course.steps.items - 1) i.draft.course.steps.items ++ s ∷ []) i.draft.course.trail
-  apart s at = subst (λ (l : List Step). IsDb i.base.mission (begun_in i) i.tick i.settled i.draft.board l i.draft.course.trail) (split_last i.draft.course.steps.items s at) d
+      → IsDb i.base.mission (begun_in i) i.tick i.draft.board (take (length i.draft.course.steps.items - 1) i.draft.course.steps.items ++ s ∷ []) i.draft.course.trail
+  apart s at = subst (λ (l : List Step). IsDb i.base.mission (begun_in i) i.tick i.draft.board l i.draft.course.trail) (split_last i.draft.course.steps.items s at) d
 
   pub back_mark : (s : Step) → slice_get i.draft.course.steps.items (length i.draft.course.steps.items - 1) ≡ Some s → s.mark ≤ length i.draft.course.trail.parts
-  back_mark s at = last_mark i.base.mission (begun_in i) i.tick i.settled i.draft.board (take (length i.draft.course.steps.items - 1) i.draft.course.steps.items) s i.draft.course.trail (apart s at)
+  back_mark s at = last_mark i.base.mission (begun_in i) i.tick i.draft.board (take (length i.draft.course.steps.items - 1) i.draft.course.steps.items) s i.draft.course.trail (apart s at)
 
   pub back_shows : (s : Step) → slice_get i.draft.course.steps.items (length i.draft.course.steps.items - 1) ≡ Some s → Shows s.part i.draft.board
-  back_shows s at = last_shown i.base.mission (begun_in i) i.tick i.settled i.draft.board (take (length i.draft.course.steps.items - 1) i.draft.course.steps.items) s i.draft.course.trail (apart s at)
+  back_shows s at = last_shown i.base.mission (begun_in i) i.tick i.draft.board (take (length i.draft.course.steps.items - 1) i.draft.course.steps.items) s i.draft.course.trail (apart s at)
 
   -- without its last part
   pub back_in : (new : Draft) → 0 < length i.draft.course.steps.items → new.course.steps.items ≡ take (length i.draft.course.steps.items - 1) i.draft.course.steps.items
       → ((s : Step) → slice_get i.draft.course.steps.items (length i.draft.course.steps.items - 1) ≡ Some s → TakesBack s.part i.draft.board new.board)
       → ((s : Step) → slice_get i.draft.course.steps.items (length i.draft.course.steps.items - 1) ≡ Some s → Leaves s.mark i.draft.course.trail new.course.trail)
-      → IsDb i.base.mission (begun_in i) i.tick i.settled new.board new.course.steps.items new.course.trail
+      → IsDb i.base.mission (begun_in i) i.tick new.board new.course.steps.items new.course.trail
   back_in new some steps board trail =
       let s = some_last i.draft.course.steps.items some in
-      subst (λ (l : List Step). IsDb i.base.mission (begun_in i) i.tick i.settled new.board l new.course.trail) (sym steps)
-      (db_back i.base.mission (begun_in i) i.tick i.settled i.draft.board (take (length i.draft.course.steps.items - 1) i.draft.course.steps.items) s.0 i.draft.course.trail (apart s.0 s.1) new.board new.course.trail (board s.0 s.1) (trail s.0 s.1))
+      subst (λ (l : List Step). IsDb i.base.mission (begun_in i) i.tick new.board l new.course.trail) (sym steps)
+      (db_back i.base.mission (begun_in i) i.tick i.draft.board (take (length i.draft.course.steps.items - 1) i.draft.course.steps.items) s.0 i.draft.course.trail (apart s.0 s.1) new.board new.course.trail (board s.0 s.1) (trail s.0 s.1))
 
   module _ (p : Planning) (seen : seen_in i ≡ p) where
     pub some_steps : 0 < length p.parts → 0 < length i.draft.course.steps.items

@@ -1,6 +1,5 @@
 -- What holds of a Db.
 use Rattle.std.specs.Prelude.{◌≡◌, ℕ, ℤ, ◌+◌, Some, List, [], ◌∷◌, ◌++◌, length, map, take, slice_get}
-use Rattle.hs_base.specs.Checked.{fixed_of}
 use Rattle.hs_base.specs.declared.mission.Mission.{Mission}
 use Rattle.search_tree.specs.Begun.{Begun}
 use Rattle.search_tree.specs.Outset.{MayBegin}
@@ -44,10 +43,9 @@ pub record IsCounted (p : Partial) (board : Board) : Type 0 where
   pub added : board.added ≡ new_tokens p
   pub total : board.total ≡ tokens p
 
-pub record IsDb (m : Mission) (b : Begun) (tick : ℤ) (settled : ℕ) (board : Board) (steps : List Step) (trail : Trailed) : Type 0 where
+pub record IsDb (m : Mission) (b : Begun) (tick : ℤ) (board : Board) (steps : List Step) (trail : Trailed) : Type 0 where
   pub begins : MayBegin m b
   pub horizon : tick ≡ tick_of m b
-  pub fixed : settled ≡ length (fixed_of b.base) + length b.fixed
   pub allowed : AreAllowed m b (begin m b) (parts_of steps)
   pub shows : pictured board ≡ do_parts (begin m b) (parts_of steps)
   pub counts : IsCounted (do_parts (begin m b) (parts_of steps)) board

@@ -4,12 +4,13 @@ use Rattle.std.specs.List.{list_any}
 use Rattle.hs_base.specs.Bounds.{on_some}
 use Rattle.hs_base.specs.Checked.{supports_of}
 use Rattle.hs_base.specs.Needs.{needs_of}
-use Rattle.hs_base.specs.Points.{Point, ending, place_of, points_of, timeline_of, tokens_of}
+use Rattle.hs_base.specs.Points.{Point, ending, place_of, timeline_of}
 use Rattle.hs_base.specs.declared.mission.Kind.{Kind}
 use Rattle.hs_base.specs.declared.mission.Mission.{Mission}
 use Rattle.hs_base.specs.declared.mission.Var.{Var}
 use Rattle.hs_base.specs.declared.plan.Extension.{Extension}
 use Rattle.hs_base.specs.declared.plan.TokenRef.{TokenRef}
+use Rattle.plan_index.specs.Contents.{start_at}
 use Rattle.search_tree.specs.Begun.{Begun}
 use Rattle.search_tree.specs.Partial.{at, begin}
 use Rattle.timeline_db.specs.Claims.{is_claim}
@@ -17,28 +18,23 @@ use Rattle.timeline_db.specs.Lines.{Shown, row_of, with_needs, with_unmet}
 use Rattle.timeline_db.specs.Tracked.{AreTracked}
 use Rattle.timeline_db.specs.declared.token.Token.{Token}
 
--- the start of the token of that place, where points have these names
-abbrev pub start_among : List Point → ℕ → ℕ → ℕ
-start_among names v zero = 0
-start_among names v (suc i) = place_of (ending v i) names
-
--- the tokens of a timeline from that place on, with no need noted
+-- the tokens of a timeline from that place on, with no need noted, where points have these names
 abbrev pub laid_from : List Point → ℕ → ℕ → List Kind → List Token
 laid_from names v i [] = []
-laid_from names v i (k ∷ ks) = record { held = record { kind = k; start = start_among names v i; stop = place_of (ending v i) names }; joined = true; needs = 0; unmet = 0 } ∷ laid_from names v (suc i) ks
+laid_from names v i (k ∷ ks) = record { held = record { kind = k; start = start_at names v i; stop = place_of (ending v i) names }; joined = true; needs = 0; unmet = 0 } ∷ laid_from names v (suc i) ks
+
+-- the timeline of variable v with these tokens
+abbrev pub laid_of : List Point → ℕ → List Kind → Shown
+laid_of names v ks = record { tokens = laid_from names v 0 ks; given = length ks; finished = false }
 
 -- the timeline of variable v among these tokens
 abbrev pub laid_line : List Kind → List Point → ℕ → Shown
-laid_line tokens names v = record { tokens = laid_from names v 0 (timeline_of tokens v); given = length (timeline_of tokens v); finished = false }
+laid_line tokens names v = laid_of names v (timeline_of tokens v)
 
 -- the lines are the timelines of these tokens, one for each of so many variables
 pub record AreLaid (vars : ℕ) (tokens : List Kind) (names : List Point) (lines : List Shown) : Type 0 where
   pub size : length lines ≡ vars
   pub each : (v : ℕ) (s : Shown) → slice_get lines v ≡ Some s → s ≡ laid_line tokens names v
-
--- the lines are those of a plan
-abbrev pub AreLaidOf : ℕ → List Extension → List Shown → Type 0
-AreLaidOf vars es lines = AreLaid vars (tokens_of es) (points_of es) lines
 
 -- the first token of a variable, which ends at that point
 abbrev pub first_token : Mission → ℕ → ℕ → Var → Token

@@ -15,8 +15,6 @@ pub struct Db {
     pub(crate) fixed: List<Time>,
     /// The tick of the next horizon.
     pub(crate) tick: i64,
-    /// How many points extensions fix, with those fixed since.
-    pub(crate) settled: usize,
     pub(crate) draft: Draft,
 }
 
@@ -28,5 +26,5 @@ impl Model for Db {
 
     ghost view = { λ d. record { mission = d.base.mission; begun = record { base = d.base.plan.extensions; since = d.since; fixed = d.fixed }; parts = parts_of d.draft.course.steps.items } };
 
-    ghost invariant = { λ d. IsDb d.base.mission (record { base = d.base.plan.extensions; since = d.since; fixed = d.fixed }) d.tick d.settled d.draft.board d.draft.course.steps.items d.draft.course.trail };
+    ghost invariant = { λ d. IsDb d.base.mission (record { base = d.base.plan.extensions; since = d.since; fixed = d.fixed }) d.tick d.draft.board d.draft.course.steps.items d.draft.course.trail };
 }

@@ -1,16 +1,12 @@
-ghost use Rattle.std.specs.List.{AllByRecursion};
 ghost use Rattle.std.specs.Prelude.{◌≡◌, ℕ, suc, ◌+◌, ◌<◌, ◌≤◌, ◌^◌, false, List, [], ◌∷◌, ◌++◌, None, Some, drop, flat_map, length, replicate, slice_get, IfOk, OnOk};
 ghost use Rattle.hs_base.specs.Bounds.{goals_of};
-ghost use Rattle.hs_base.specs.Checked.{Checked};
-ghost use Rattle.hs_base.specs.Points.{count, tokens_of};
-ghost use Rattle.hs_base.specs.declared.plan.Extension.{Extension};
 ghost use Rattle.plan_check.specs.Seen.{seen};
 ghost use Rattle.search_tree.specs.Begun.{Begun, begun_of};
 ghost use Rattle.search_tree.specs.Outset.{MayBegin};
 ghost use Rattle.search_tree.specs.Partial.{begin};
 ghost use Rattle.timeline_db.specs.Boards.{pictured};
 ghost use Rattle.timeline_db.specs.Databases.{IsCounted};
-ghost use Rattle.timeline_db.specs.Laying.{AreFirst, AreLaidOf, AreOutset, IsFirstUnclaimed, NotesAll, NotesLast, first_token};
+ghost use Rattle.timeline_db.specs.Laying.{AreFirst, AreLaid, AreOutset, IsFirstUnclaimed, NotesAll, NotesLast, first_token, laid_line};
 ghost use Rattle.timeline_db.specs.Lines.{Shown};
 
 use crate::board::Board;
@@ -18,46 +14,35 @@ use crate::line::Line;
 use crate::lookups::{count_needs, is_claimed};
 use crate::token::Token;
 use hs_base::{Extension, Kind, Memory, Mission, SvId, TokenRef, Var};
-use plan_check::Snapshot;
+use plan_check::{CheckedPlan, Snapshot};
+use plan_index::PlanIndex;
 use search_tree::Held;
 use std::alloc::Global;
-use token_net::points;
 
-/// So many timelines without token.
-fn empty_lines(alloc: Global, vars: usize) -> Result<Vec<Line>, Memory>
-    ensures { IfOk result (λ lines. AreLaidOf vars [] lines.items) }
+/// The timeline of a variable with the tokens of a plan.
+fn line_of(alloc: Global, index: &PlanIndex, sv: SvId) -> Result<Line, Memory>
+    ensures { IfOk result (λ line. line ≡ laid_line index.now.tokens index.now.points sv.0) }
+{
+    let mut line = Line::new(alloc);
+    let row = index.timeline(sv);
+    for placed in row {
+        let kind = Kind {
+            sv,
+            value: placed.value,
+        };
+        line.push_given(kind, placed.end.0)?;
+    }
+    Ok(line)
+}
+
+/// The timelines of so many variables with the tokens of a plan.
+fn lines_of(alloc: Global, index: &PlanIndex, vars: usize) -> Result<Vec<Line>, Memory>
+    requires { vars < 2 ^ 32 }
+    ensures { IfOk result (λ lines. AreLaid vars index.now.tokens index.now.points lines.items) }
 {
     let mut lines = Vec::with_capacity(alloc, vars)?;
-    for _ in 0..vars {
-        lines.push(Line::new(alloc))?;
-    }
-    Ok(lines)
-}
-
-/// Adds the tokens of an extension, whose horizon is that point.
-fn lay(lines: &mut [Line], extension: &Extension, mark: u32) -> Result<(), Memory>
-    requires kinds { AllByRecursion (λ k. k.sv.0 < length lines.old) extension.now.tokens }
-    requires given { (v : ℕ) (s : Shown) → slice_get lines.old v ≡ Some s → s.given ≡ length s.tokens }
-    requires small { mark + 1 + length extension.now.tokens < 2 ^ 32 }
-    ensures { (before : List Extension) → AreLaidOf (length lines.old) before lines.old → mark ≡ count before → OnOk result (AreLaidOf (length lines.old) (before ++ extension.now ∷ []) lines.new) }
-{
-    for (i, kind) in extension.tokens.as_slice().iter().enumerate() {
-        lines[kind.sv.0 as usize].push_given(*kind, mark + 1 + i as u32)?;
-    }
-    Ok(())
-}
-
-/// The timelines of a plan.
-fn lines_of(alloc: Global, vars: usize, extensions: &[Extension]) -> Result<Vec<Line>, Memory>
-    requires kinds { AllByRecursion (λ k. k.sv.0 < vars) (tokens_of extensions.now) }
-    requires small { count extensions.now < 2 ^ 32 }
-    ensures { IfOk result (λ lines. AreLaidOf vars extensions.now lines.items) }
-{
-    let mut lines = empty_lines(alloc, vars)?;
-    let mut points = 1;
-    for extension in extensions {
-        lay(&mut lines, extension, points)?;
-        points += extension.tokens.len() as u32 + 1;
+    for sv in 0..vars {
+        lines.push(line_of(alloc, index, SvId(sv as u32))?)?;
     }
     Ok(lines)
 }
@@ -152,22 +137,18 @@ fn first_lines(alloc: Global, mission: &Mission, first: u32) -> Result<Vec<Line>
 }
 
 /// The timelines with which a search begins: those of the plan, or first tokens where there is no
-/// plan yet. `mark` is the point of the next horizon.
-pub(crate) fn opening_lines(
-    alloc: Global,
-    mission: &Mission,
-    extensions: &[Extension],
-    mark: u32,
-) -> Result<Vec<Line>, Memory>
-    requires checked { Checked mission.now extensions.now }
-    requires mark { mark ≡ count extensions.now }
-    ensures { (b : Begun) → b.base ≡ extensions.now → IfOk result (λ lines. AreOutset mission.now b lines.items) }
+/// plan yet.
+fn opening_lines(alloc: Global, plan: &CheckedPlan) -> Result<Vec<Line>, Memory>
+    ensures { (b : Begun) → b.base ≡ plan.now.plan.extensions → IfOk result (λ lines. AreOutset plan.now.mission b lines.items) }
 {
-    if extensions.is_empty() {
-        return first_lines(alloc, mission, mark + 1);
+    let mission = plan.mission();
+    let index = plan.index();
+    if index.horizons() == 0 {
+        // The points before are Z and the horizon.
+        return first_lines(alloc, mission, 2);
     }
-    let mut lines = lines_of(alloc, mission.vars.len(), extensions)?;
-    note_all(&mut lines, mission, extensions);
+    let mut lines = lines_of(alloc, index, mission.vars.len())?;
+    note_all(&mut lines, mission, plan.plan().extensions.as_slice());
     Ok(lines)
 }
 
@@ -226,18 +207,16 @@ pub(crate) fn lay_out(alloc: Global, snapshot: &Snapshot) -> Result<Board, Memor
     ensures counts { IfOk result (IsCounted (begin snapshot.now.plan.mission (begun_of (seen snapshot.now)))) }
 {
     let mission = snapshot.plan.mission();
-    let plan = snapshot.plan.plan();
-    let extensions = plan.extensions.as_slice();
-    let mark = points(plan);
-    let lines = opening_lines(alloc, mission, extensions, mark)?;
+    let index = snapshot.plan.index();
+    let lines = opening_lines(alloc, &snapshot.plan)?;
     let added = count_added(&lines);
     let total = count_tokens(&lines);
     Ok(Board {
         lines,
         supports: Vec::new(alloc),
-        goals: open_goals(alloc, count_goals(mission, extensions.len()))?,
+        goals: open_goals(alloc, count_goals(mission, index.horizons()))?,
         deferred: Vec::new(alloc),
-        points: mark + 1 + added as u32,
+        points: index.points() as u32 + 1 + added as u32,
         added,
         total,
     })

@@ -33,7 +33,7 @@ impl Db {
     pub(crate) fn horizon(&self) -> Option<&Horizon>
         ensures { option_copied result ≡ slice_get self.now.mission.horizons (length self.now.begun.base) }
     {
-        let number = self.base.plan().extensions.len();
+        let number = self.base.index().horizons();
         self.base.mission().horizons.as_slice().get(number)
     }
 
@@ -42,8 +42,11 @@ impl Db {
         requires { more ≤ 1 }
         ensures { result ≡ free_with self.now.begun (partial_of self.now) more }
     {
-        let points = self.base.plan().extensions.len() + 2 + self.draft.board.total + more;
-        points.saturating_sub(self.settled)
+        let index = self.base.index();
+        let points = index.horizons() + 2 + self.draft.board.total + more;
+        points
+            .saturating_sub(index.fixed().len())
+            .saturating_sub(self.fixed.len())
     }
 
     /// Whether one more token would be within the limits.

@@ -1,13 +1,11 @@
-ghost use Rattle.std.specs.List.{AllByRecursion, list_any};
 ghost use Rattle.std.specs.Prelude.{◌≡◌, ℕ, ◌+◌, ◌<◌, ◌≤◌, ◌^◌, ◌≤ℤ◌, ◌||◌, All, [], ◌∷◌, ◌++◌, cond, false, flat_map, get_or, length, map, nat_eq, neg_ℤ, option_map, pos, slice_get, unwrap_or, IfOk, OnOk};
-ghost use Rattle.hs_base.specs.Bounds.{apart, fixed_bounds, is_fixed, on_some};
-ghost use Rattle.hs_base.specs.Checked.{fixed_of};
+ghost use Rattle.hs_base.specs.Bounds.{apart, fixed_bounds, is_fixed, on_some, since_bounds};
 ghost use Rattle.hs_base.specs.Missions.{IsMission};
-ghost use Rattle.hs_base.specs.Points.{value_of};
+ghost use Rattle.hs_base.specs.Points.{count, value_of};
 ghost use Rattle.hs_base.specs.Ranges.{InRange, whole};
 ghost use Rattle.hs_base.specs.Schedule.{Meets, Schedule, bound};
-ghost use Rattle.plan_check.specs.Fixing.{AreFlags};
 ghost use Rattle.plan_check.specs.Seen.{seen};
+ghost use Rattle.plan_index.specs.Named.{AreFlags};
 ghost use Rattle.search_tree.specs.Begun.{begun_of, stub};
 ghost use Rattle.search_tree.specs.Outset.{MayBegin};
 ghost use Rattle.search_tree.specs.Partial.{begin};
@@ -17,7 +15,6 @@ ghost use Rattle.stn_trail.specs.declared.part.Part.TheVariants.{Added};
 ghost use Rattle.timeline_db.specs.Lines.{row_of};
 ghost use Rattle.timeline_db.specs.Opening.{line_bounds, own_bounds};
 ghost use Rattle.timeline_db.specs.Plannings.{IsOpen};
-ghost use Rattle.token_net.specs.Rows.{since_rows};
 
 use crate::bounding::{push_apart, push_exactly, push_from};
 use crate::course::{Course, add_all};
@@ -25,51 +22,37 @@ use crate::draft::Draft;
 use crate::laying::lay_out;
 use crate::line::Line;
 use crate::{Db, Shut, Token};
-use hs_base::{Bound, Copies, Extension, LAST, Memory, Mission, PointId, Range, Time};
+use hs_base::{Bound, Copies, LAST, Memory, Mission, PointId, Range, Time};
 use plan_check::Snapshot;
 use search_tree::Held;
 use std::alloc::Global;
 use stn_distance::POINTS;
 use stn_trail::Trail;
-use token_net::{bounds, points};
+use token_net::bounds;
 
 const WHOLE: Range = Range { low: 0, high: LAST };
 
-/// Sets the flags of points.
-fn flag(flags: &mut [bool], times: &[Time])
-    requires { All (λ t. t.point.0 < length flags.old) times.now }
-    ensures flags { (x : ℕ) → get_or flags.new x false ≡ (get_or flags.old x false || list_any (λ t. nat_eq t.point.0 x) times.now) }
-    ensures size { length flags.new ≡ length flags.old }
-{
-    for time in times {
-        flags[time.point.0 as usize] = true;
-    }
-}
-
-/// A flag for each point, set where an extension fixes it.
-fn flags_of(alloc: Global, points: usize, extensions: &[Extension]) -> Result<Vec<bool>, Memory>
-    requires { AllByRecursion (λ t. t.point.0 < points) (fixed_of extensions.now) }
-    ensures flags { IfOk result (λ v. AreFlags extensions.now v.items) }
+/// A flag for each of so many points, set where one of the times is of it.
+fn flags_of(alloc: Global, points: usize, times: &[Time]) -> Result<Vec<bool>, Memory>
+    requires { All (λ t. t.point.0 < points) times.now }
+    ensures flags { IfOk result (λ v. AreFlags times.now v.items) }
     ensures size { IfOk result (λ v. length v.items ≡ points) }
 {
     let mut flags = vec![in alloc; false; points]?;
-    for extension in extensions {
-        flag(&mut flags, extension.fixed.as_slice());
+    for time in times {
+        flags[time.point.0 as usize] = true;
     }
     Ok(flags)
 }
 
-/// A flag for each point up to the next horizon's, set where it is fixed.
-fn opening_flags(alloc: Global, snapshot: &Snapshot, mark: u32) -> Result<Vec<bool>, Memory>
-    requires base { AllByRecursion (λ t. t.point.0 ≤ mark) (fixed_of snapshot.now.plan.plan.extensions) }
-    requires fixed { AllByRecursion (λ t. t.point.0 ≤ mark) snapshot.now.fixed }
-    ensures flags { IfOk result (λ v. AreFlags (stub (begun_of (seen snapshot.now))) v.items) }
-    ensures size { IfOk result (λ v. length v.items ≡ mark + 1) }
+/// Whether a point was executed: the plan fixes it, or it is flagged as one of the others.
+fn was_executed(snapshot: &Snapshot, flags: &[bool], point: usize) -> bool
+    requires flags { AreFlags snapshot.now.fixed flags.now }
+    requires there { point < length flags.now }
+    requires few { length flags.now < 2 ^ 32 }
+    ensures { result ≡ is_fixed (stub (begun_of (seen snapshot.now))) point }
 {
-    let extensions = snapshot.plan.plan().extensions.as_slice();
-    let mut flags = flags_of(alloc, mark as usize + 1, extensions)?;
-    flag(&mut flags, snapshot.fixed.as_slice());
-    Ok(flags)
+    snapshot.plan.index().is_fixed(PointId(point as u32)) || flags[point]
 }
 
 /// The fixed points have their times.
@@ -100,16 +83,18 @@ fn push_since_at(
     push_from(made, point, since)
 }
 
-/// The points but Z that are not fixed stand at that time or later.
+/// The points but Z that are not fixed stand at the snapshot's tick or later.
 #[tactic(auto, using(token_net::proofs::ItemLemmas::flat_numbers))]
-fn push_since(made: &mut Vec<Bound>, flags: &[bool], since: i64) -> Result<(), Memory>
-    requires some { 1 ≤ length flags.now }
+fn push_since(made: &mut Vec<Bound>, snapshot: &Snapshot, flags: &[bool]) -> Result<(), Memory>
+    requires flags { AreFlags snapshot.now.fixed flags.now }
+    requires size { length flags.now ≡ count (stub (begun_of (seen snapshot.now))) }
     requires few { length flags.now < 2 ^ 32 }
-    requires time { pos 0 ≤ℤ since }
-    ensures { OnOk result (made.new.items ≡ made.old.items ++ since_rows flags.now (length flags.now) since) }
+    requires time { InRange whole snapshot.now.since }
+    ensures { OnOk result (made.new.items ≡ made.old.items ++ since_bounds (stub (begun_of (seen snapshot.now))) snapshot.now.since) }
 {
     for x in 1..flags.len() {
-        push_since_at(made, flags[x], x as u32, since)?;
+        let executed = was_executed(snapshot, flags, x);
+        push_since_at(made, executed, x as u32, snapshot.since)?;
     }
     Ok(())
 }
@@ -130,14 +115,15 @@ fn known_bounds(alloc: Global, snapshot: &Snapshot) -> Result<Vec<Bound>, Memory
     ensures { IfOk result (λ made. made.items ≡ begun_bounds snapshot.now.plan.mission (begun_of (seen snapshot.now))) }
 {
     let mission = snapshot.plan.mission();
-    let plan = snapshot.plan.plan();
-    let mark = points(plan);
-    let flags = opening_flags(alloc, snapshot, mark)?;
-    let mut made = bounds(alloc, mission, plan)?.into_vec();
-    push_exactly(&mut made, mark, tick_at(mission, plan.extensions.len()))?;
+    let index = snapshot.plan.index();
+    let mark = index.points() as u32;
+    let times = snapshot.fixed.as_slice();
+    let flags = flags_of(alloc, index.points() + 1, times)?;
+    let mut made = bounds(alloc, mission, snapshot.plan.plan())?.into_vec();
+    push_exactly(&mut made, mark, tick_at(mission, index.horizons()))?;
     push_apart(&mut made, mark, 0, WHOLE)?;
-    push_fixed(&mut made, snapshot.fixed.as_slice())?;
-    push_since(&mut made, &flags, snapshot.since)?;
+    push_fixed(&mut made, times)?;
+    push_since(&mut made, snapshot, &flags)?;
     Ok(made)
 }
 
@@ -223,7 +209,7 @@ fn opening_bounds(alloc: Global, snapshot: &Snapshot, lines: &[Line]) -> Result<
     ensures { IfOk result (λ made. made.items ≡ root_bounds snapshot.now.plan.mission (begun_of (seen snapshot.now)) (begin snapshot.now.plan.mission (begun_of (seen snapshot.now)))) }
 {
     let mut made = known_bounds(alloc, snapshot)?;
-    let mark = points(snapshot.plan.plan());
+    let mark = snapshot.plan.index().points() as u32;
     push_lines(
         &mut made,
         snapshot.plan.mission(),
@@ -251,18 +237,6 @@ fn trail_of(alloc: Global, points: u32, bounds: &[Bound]) -> Result<Trail, Memor
     }
 }
 
-/// How many points are fixed.
-fn count_fixed(extensions: &[Extension], fixed: &[Time]) -> usize
-    requires { length (fixed_of extensions.now) + length fixed.now < 2 ^ 64 }
-    ensures { result ≡ length (fixed_of extensions.now) + length fixed.now }
-{
-    let mut count = fixed.len();
-    for extension in extensions {
-        count += extension.fixed.len();
-    }
-    count
-}
-
 impl Db {
     /// The partial plan with which a search for the next horizon begins: the plan's tokens, or a
     /// first one of each variable, with each timeline open.
@@ -274,16 +248,14 @@ impl Db {
         let board = lay_out(alloc, snapshot)?;
         let made = opening_bounds(alloc, snapshot, &board.lines)?;
         let trail = trail_of(alloc, board.points, &made)?;
-        let extensions = snapshot.plan.plan().extensions.as_slice();
-        let tick = tick_at(snapshot.plan.mission(), extensions.len());
-        let settled = count_fixed(extensions, snapshot.fixed.as_slice());
+        let horizons = snapshot.plan.index().horizons();
+        let tick = tick_at(snapshot.plan.mission(), horizons);
         Ok(Db {
             alloc,
             base: snapshot.plan.copy(alloc)?,
             since: snapshot.since,
             fixed: snapshot.fixed.copy(alloc)?,
             tick,
-            settled,
             draft: Draft {
                 board,
                 course: Course::begin(alloc, trail),

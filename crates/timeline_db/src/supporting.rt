@@ -38,7 +38,7 @@ impl Db {
         ensures same { OnErr result (self.new ≡ self.old) }
         ensures shut { IfErr result (λ e. IfCycle e (WouldShut (MetGoal goal by) self.old)) }
     {
-        let number = self.base.plan().extensions.len();
+        let number = self.base.index().horizons();
         self.draft.make_goal(self.base.mission(), number, goal, by)?;
         match self.draft.meet_goal(goal, by) {
             Ok(()) => {

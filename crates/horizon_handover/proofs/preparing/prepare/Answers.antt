@@ -18,18 +18,13 @@ use Rattle.horizon_handover.proofs.preparing.prepare.Goals as goal
 abbrev flags_in : Planned → List Bool
 flags_in p = map (λ y. is_observed p.mission p.plan.extensions y) (numbers_from 0 (count p.plan.extensions))
 
-are_flags : (p : Planned) (m : Mission) (pl : Plan) (o : List Bool) → m ≡ p.mission → pl ≡ p.plan → o ≡ map (λ y. is_observed m pl.extensions y) (numbers_from 0 (count pl.extensions)) → o ≡ flags_in p
-are_flags p m pl o sm sp is =
-    subst (λ (x : Mission). o ≡ map (λ y. is_observed x p.plan.extensions y) (numbers_from 0 (count p.plan.extensions))) sm
-    (subst (λ (x : Plan). o ≡ map (λ y. is_observed m x.extensions y) (numbers_from 0 (count x.extensions))) sp is)
-
 pub begin-requires-clause-reduced : goal.begin-requires-clause-reduced
 begin-requires-clause-reduced c =
     let p : Planned = c.into_parts-plan.result.0 in
     let net = c.into_parts-plan.result.2 in
     let e = c.into_parts-plan.ensures in
     let k = parts_of c.args.reformed p c.into_parts-plan.result.1 net e.plan e.dist e.net e.reformed in
-    let o : c.in_ok-observed.observed ≡ flags_in p = are_flags p c.mission.result.now c.plan-2.result.now c.in_ok-observed.observed c.mission.ensures.mission c.plan-2.ensures.plan c.in_ok-observed.ensures in
+    let o : c.in_ok-observed.observed ≡ flags_in p = c.in_ok-observed.ensures in
     subst (λ (fs : List Bool). IsReducedOf (length fs) (spread net) net) (sym o) (subst (λ n. IsReducedOf n (spread net) net) (sym (flags_size p k.checked net k.net)) (again p k.checked net k.net))
 
 pub begin-requires-clause-reached : goal.begin-requires-clause-reached
@@ -38,7 +33,7 @@ begin-requires-clause-reached c =
     let net = c.into_parts-plan.result.2 in
     let e = c.into_parts-plan.ensures in
     let k = parts_of c.args.reformed p c.into_parts-plan.result.1 net e.plan e.dist e.net e.reformed in
-    let o : c.in_ok-observed.observed ≡ flags_in p = are_flags p c.mission.result.now c.plan-2.result.now c.in_ok-observed.observed c.mission.ensures.mission c.plan-2.ensures.plan c.in_ok-observed.ensures in
+    let o : c.in_ok-observed.observed ≡ flags_in p = c.in_ok-observed.ensures in
     subst (λ (fs : List Bool). IsReached (length fs) net (executed []) (pos 0)) (sym o) (subst (λ n. IsReached n net (executed []) (pos 0)) (sym (flags_size p k.checked net k.net)) (start_reached p k.checked net k.net))
 
 pub invariant_of-result : goal.invariant_of-result
@@ -47,11 +42,11 @@ invariant_of-result c =
     let net = c.into_parts-plan.result.2 in
     let e = c.into_parts-plan.ensures in
     let k = parts_of c.args.reformed p c.into_parts-plan.result.1 net e.plan e.dist e.net e.reformed in
-    let o : c.in_ok-observed.observed ≡ flags_in p = are_flags p c.mission.result.now c.plan-2.result.now c.in_ok-observed.observed c.mission.ensures.mission c.plan-2.ensures.plan c.in_ok-observed.ensures in
+    let o : c.in_ok-observed.observed ≡ flags_in p = c.in_ok-observed.ensures in
     let d : c.in_ok-dispatch.dispatch ≡ begun net (flags_in p) (times_of []) (pos 0) = c.in_ok-dispatch.ensures ∙ ap (λ (fs : List Bool). begun net fs (times_of []) (pos 0)) o in
     record {
       checked = k.checked;
-      last = subst (λ (x : Plan). IsLast x.extensions c.in_ok-extension.extension) c.plan-3.ensures.plan c.in_ok-extension.ensures;
+      last = subst (λ (x : Plan). IsLast x.extensions c.in_ok-extension.extension) c.plan-2.ensures.plan c.in_ok-extension.ensures;
       net = c.in_ok-kept.ensures ∙ sym (ap (λ (s : State). s.net) d);
       dist = k.dist;
       dispatch = subst (Follows (beginning p)) (sym d) (start_dispatch p k.checked net k.net);

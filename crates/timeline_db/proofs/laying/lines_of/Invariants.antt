@@ -1,10 +1,10 @@
-use Rattle.std.proofs.Common.{◌≡◌, take}
-use Rattle.hs_base.specs.Points.{count}
-use Rattle.timeline_db.specs.Laying.{AreLaidOf}
+use Rattle.std.proofs.Common.{ℕ, ◌≡◌, Some, length, slice_get}
+use Rattle.timeline_db.specs.Laying.{laid_line}
+use Rattle.timeline_db.specs.Lines.{Shown}
 use Rattle.timeline_db.proofs.laying.lines_of.Given as goal
 
-abbrev pub invariant-loop-extension : goal.invariant-loop-extension
-invariant-loop-extension l = record {
-  laid : AreLaidOf l.vars (take l.extension-index l.extensions) l.lines.items;
-  points : l.points ≡ count (take l.extension-index l.extensions);
+abbrev pub invariant-loop-sv : goal.invariant-loop-sv
+invariant-loop-sv l = record {
+  size : length l.lines.items ≡ l.sv;
+  each : (v : ℕ) (s : Shown) → slice_get l.lines.items v ≡ Some s → s ≡ laid_line l.index.tokens l.index.points v;
 }

@@ -1,19 +1,15 @@
-use Rattle.std.proofs.Common.{◌≡◌, ◌+◌, List, length, map, slice_get, pos, ap, ◌∙◌, arith}
+use Rattle.std.proofs.Common.{◌≡◌, ℕ, map, slice_get, pos, ap, ◌∙◌}
 use Rattle.std.specs.Prelude.{option_map, unwrap_or}
-use Rattle.hs_base.specs.Checked.{fixed_of}
 use Rattle.hs_base.specs.declared.mission.Horizon.{Horizon}
 use Rattle.hs_base.specs.declared.mission.Mission.{Mission}
-use Rattle.hs_base.specs.declared.plan.Extension.{Extension}
-use Rattle.hs_base.specs.declared.plan.Plan.{Plan}
-use Rattle.hs_base.specs.declared.plan.Time.{Time}
-use Rattle.plan_check.proofs.WithinLemmas.{few_points}
 use Rattle.plan_check.specs.Planned.{Planned}
 use Rattle.plan_check.specs.Seen.{seen}
-use Rattle.search_tree.specs.Begun.{Begun, begun_of, pending}
+use Rattle.plan_index.specs.Contents.{Contents}
+use Rattle.search_tree.specs.Begun.{Begun, begun_of}
 use Rattle.search_tree.specs.Partial.{Partial}
 use Rattle.stn_trail.specs.Held.{Held as Trailed}
 use Rattle.stn_trail.specs.declared.part.Part.TheVariants.{Added}
-use Rattle.timeline_db.proofs.OpeningLemmas.{db_copied, fixed_counted, fixed_few, open_copied, root_few, root_kept, root_range, tick_fits, whole_fits}
+use Rattle.timeline_db.proofs.OpeningLemmas.{db_copied, open_copied, root_few, root_kept, root_range, tick_fits, whole_fits}
 use Rattle.timeline_db.specs.Kept.{tick_of}
 use Rattle.timeline_db.proofs.db.Db.begin.Goals as goal
 
@@ -28,35 +24,17 @@ trail_of-requires-clause-range c =
 pub trail_of-requires-clause-schedule : goal.trail_of-requires-clause-schedule
 trail_of-requires-clause-schedule c = root_kept c.args.snapshot.now.plan.mission (begun_of (seen c.args.snapshot.now)) c.requires c.deref-2.result.now (c.deref-2.ensures.value ∙ c.in_ok-made.ensures)
 
-pub count_fixed-settled-requires : goal.count_fixed-settled-requires
-count_fixed-settled-requires c =
-    let es = c.args.snapshot.now.plan.plan.extensions in
-    let m = c.args.snapshot.now.plan.mission in
-    let few = c.requires.checked.mission.few_horizons in
-    let is : c.as_slice-extensions.result.now ≡ es = c.as_slice-extensions.ensures ∙ ap (λ (p : Plan). p.extensions) c.plan.ensures.plan in
-    omega (
-      arith,
-      fixed_counted m few es c.requires.checked.rules,
-      fixed_few es (pending (begun_of (seen c.args.snapshot.now))) c.args.snapshot.now.fixed c.requires.fixed.each,
-      few_points m c.requires.checked.mission es c.requires.checked.rules,
-      ap (λ (l : List Extension). length (fixed_of l)) is,
-      ap (λ (l : List Time). length l) c.as_slice.ensures,
-    )
-
 pub invariant_of-result : goal.invariant_of-result
 invariant_of-result c =
     let m = c.args.snapshot.now.plan.mission in
     let b : Begun = begun_of (seen c.args.snapshot.now) in
-    let es = c.args.snapshot.now.plan.plan.extensions in
-    let extensions : c.as_slice-extensions.result.now ≡ es = c.as_slice-extensions.ensures ∙ ap (λ (p : Plan). p.extensions) c.plan.ensures.plan in
     let tick : c.tick_at-tick.result ≡ tick_of m b =
-    c.tick_at-tick.ensures ∙ ap (λ (x : Mission). unwrap_or (option_map (λ (h : Horizon). h.tick) (slice_get x.horizons (length c.as_slice-extensions.result.now))) (pos 0)) c.mission.ensures.mission
-    ∙ ap (λ (l : List Extension). unwrap_or (option_map (λ (h : Horizon). h.tick) (slice_get m.horizons (length l))) (pos 0)) extensions in
-    let settled = c.count_fixed-settled.ensures ∙ ap (λ (l : List Extension). length (fixed_of l) + length c.as_slice.result.now) extensions ∙ ap (λ (l : List Time). length (fixed_of es) + length l) c.as_slice.ensures in
+    c.tick_at-tick.ensures ∙ ap (λ (x : Mission). unwrap_or (option_map (λ (h : Horizon). h.tick) (slice_get x.horizons c.horizons-horizons.result)) (pos 0)) c.mission.ensures.mission
+    ∙ ap (λ (n : ℕ). unwrap_or (option_map (λ (h : Horizon). h.tick) (slice_get m.horizons n)) (pos 0)) (c.horizons-horizons.ensures ∙ ap (λ (x : Contents). x.horizons) c.index.ensures) in
     let trail = c.begin.ensures.trail in
-    db_copied m b c.requires c.in_ok-copy.field-0 _ _ c.in_ok-copy-2.field-0 _ c.in_ok-board.board c.begin.result.steps.items c.begin.result.trail
+    db_copied m b c.requires c.in_ok-copy.field-0 _ _ c.in_ok-copy-2.field-0 c.in_ok-board.board c.begin.result.steps.items c.begin.result.trail
     (ap (λ (p : Planned). p.mission) c.in_ok-copy.ensures) (ap (λ (p : Planned). p.plan.extensions) c.in_ok-copy.ensures) (whole_fits c.args.snapshot.now.since c.requires.fixed.since) c.in_ok-copy-2.ensures
-    (tick_fits m b c.requires c.tick_at-tick.result tick ∙ tick) settled
+    (tick_fits m b c.requires c.tick_at-tick.result tick ∙ tick)
     c.in_ok-board.ensures.lines c.in_ok-board.ensures.shows c.in_ok-board.ensures.counts
     (ap (λ (t : Trailed). t.first) trail ∙ c.in_ok-trail.ensures.first) (ap (λ (t : Trailed). t.parts) trail ∙ c.in_ok-trail.ensures.parts ∙ ap (map (λ x. Added x)) (c.deref-2.ensures.value ∙ c.in_ok-made.ensures)) c.begin.ensures.steps
 

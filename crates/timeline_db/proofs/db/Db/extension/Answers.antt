@@ -15,13 +15,13 @@ use Rattle.timeline_db.specs.declared.token.Token.{Token}
 use Rattle.timeline_db.proofs.db.Db.extension.Goals as goal
 
 pub named_supports-requires-clause-lines : goal.named_supports-requires-clause-lines
-named_supports-requires-clause-lines c = lines_there _ _ _ _ c.self.inside.draft.board _ _ c.self.invariant
+named_supports-requires-clause-lines c = lines_there _ _ _ c.self.inside.draft.board _ _ c.self.invariant
 
 pub named_supports-requires-clause-few : goal.named_supports-requires-clause-few
-named_supports-requires-clause-few c = let few = lines_db _ _ _ _ c.self.inside.draft.board _ _ c.self.invariant in omega arith
+named_supports-requires-clause-few c = let few = lines_db _ _ _ c.self.inside.draft.board _ _ c.self.invariant in omega arith
 
 pub named_goals-requires : goal.named_goals-requires
-named_goals-requires c = lines_there _ _ _ _ c.self.inside.draft.board _ _ c.self.invariant
+named_goals-requires c = lines_there _ _ _ c.self.inside.draft.board _ _ c.self.invariant
 
 pub returns : goal.returns
 returns c =
@@ -37,7 +37,7 @@ returns c =
       goals = c.in_ok-named_goals.field-0;
     } in
     subst (λ (p : Planning). e ≡ extension p.mission p.begun (partial_of p)) c.self.view_is
-    (extension_is _ _ _ _ board _ _ c.self.invariant e
+    (extension_is _ _ _ board _ _ c.self.invariant e
     (c.len.ensures ∙ ap length (ap (λ (x : Plan). x.extensions) c.plan.ensures.plan))
     (to_z-of_z w64 c.self.inside.since fits)
     c.in_ok-copy.ensures

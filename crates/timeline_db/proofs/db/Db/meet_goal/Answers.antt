@@ -1,5 +1,5 @@
 use Rattle.std.proofs.Common.{◌<◌, sym, refl, ap, subst, ◌∙◌, length, arith}
-use Rattle.hs_base.specs.declared.plan.Plan.{Plan}
+use Rattle.plan_index.specs.Contents.{Contents}
 use Rattle.search_tree.specs.declared.part.Part.TheVariants.{MetGoal}
 use Rattle.stn_trail.specs.Held.{points_of}
 use Rattle.timeline_db.proofs.CallLemmas.{goal_by, goal_made, goal_there, met_in}
@@ -27,20 +27,20 @@ meet_goal-requires-clause-room c =
 
 pub meet_goal-requires-clause-range : goal.meet_goal-requires-clause-range
 meet_goal-requires-clause-range c =
-    let many = c.len-number.ensures ∙ ap (λ (x : Plan). length x.extensions) c.plan.ensures.plan in
+    let many = c.horizons-number.ensures ∙ ap (λ (x : Contents). x.horizons) c.index.ensures in
     range_still c.self.inside c.self.invariant c.args.self.now c.self.view_is (MetGoal c.args.goal c.args.by) c.requires c.make_goal.new.self c.in_ok-make_goal.ensures.board c.in_ok-make_goal.ensures.course
-    (goal_made c.self.inside c.self.invariant c.args.self.now c.self.view_is c.args.goal c.args.by c.requires c.make_goal.new.self.made.items c.mission.result.now c.len-number.result c.in_ok-make_goal.ensures.made c.mission.ensures.mission many) refl
+    (goal_made c.self.inside c.self.invariant c.args.self.now c.self.view_is c.args.goal c.args.by c.requires c.make_goal.new.self.made.items c.mission.result.now c.horizons-number.result c.in_ok-make_goal.ensures.made c.mission.ensures.mission many) refl
 
 pub invariant_of-self-in-Ok : goal.invariant_of-self-in-Ok
 invariant_of-self-in-Ok c =
-    let many = c.len-number.ensures ∙ ap (λ (x : Plan). length x.extensions) c.plan.ensures.plan in
+    let many = c.horizons-number.ensures ∙ ap (λ (x : Contents). x.horizons) c.index.ensures in
     met_in c.self.inside c.self.invariant c.args.self.now c.self.view_is c.args.goal c.args.by c.requires c.make_goal.new.self c.meet_goal.new.self c.in_ok-make_goal.ensures.board c.in_ok-make_goal.ensures.course
-    (goal_made c.self.inside c.self.invariant c.args.self.now c.self.view_is c.args.goal c.args.by c.requires c.make_goal.new.self.made.items c.mission.result.now c.len-number.result c.in_ok-make_goal.ensures.made c.mission.ensures.mission many)
+    (goal_made c.self.inside c.self.invariant c.args.self.now c.self.view_is c.args.goal c.args.by c.requires c.make_goal.new.self.made.items c.mission.result.now c.horizons-number.result c.in_ok-make_goal.ensures.made c.mission.ensures.mission many)
     c.in-Ok.ensures.takes c.in-Ok.ensures.meets
 
 pub returns-in-Err-clause-shut : goal.returns-in-Err-clause-shut
 returns-in-Err-clause-shut c =
-    let many = c.len-number.ensures ∙ ap (λ (x : Plan). length x.extensions) c.plan.ensures.plan in
+    let many = c.horizons-number.ensures ∙ ap (λ (x : Contents). x.horizons) c.index.ensures in
     shut_in c.self.inside c.self.invariant c.args.self.now c.self.view_is (MetGoal c.args.goal c.args.by) c.requires c.make_goal.new.self c.in_ok-make_goal.ensures.board c.in_ok-make_goal.ensures.course
-    (goal_made c.self.inside c.self.invariant c.args.self.now c.self.view_is c.args.goal c.args.by c.requires c.make_goal.new.self.made.items c.mission.result.now c.len-number.result c.in_ok-make_goal.ensures.made c.mission.ensures.mission many)
+    (goal_made c.self.inside c.self.invariant c.args.self.now c.self.view_is c.args.goal c.args.by c.requires c.make_goal.new.self.made.items c.mission.result.now c.horizons-number.result c.in_ok-make_goal.ensures.made c.mission.ensures.mission many)
     c.in-Err.shut c.in-Err.ensures.none

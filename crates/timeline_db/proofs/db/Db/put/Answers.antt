@@ -14,7 +14,7 @@ use Rattle.timeline_db.proofs.db.Db.put.Goals as goal
 pub make_cell-requires-clause-tick : goal.make_cell-requires-clause-tick
 make_cell-requires-clause-tick c =
     let i = c.self.inside in
-    let t = tick_in i.base.mission (begun_in i) i.tick i.settled i.draft.board i.draft.course.steps.items i.draft.course.trail c.self.invariant in
+    let t = tick_in i.base.mission (begun_in i) i.tick i.draft.board i.draft.course.steps.items i.draft.course.trail c.self.invariant in
     (omega (arith, ints, t.0, t.1), omega (arith, ints, t.0, t.1))
 
 pub put-requires-clause-place : goal.put-requires-clause-place
@@ -48,14 +48,14 @@ pub put-requires-clause-range : goal.put-requires-clause-range
 put-requires-clause-range c =
     let i = c.self.inside in
     let can = can_in i c.self.invariant c.args.self.now c.self.view_is c.args.part c.requires.may c.args.sv c.args.place c.args.cell c.args.grown c.requires.puts in
-    let t = tick_in i.base.mission (begun_in i) i.tick i.settled i.draft.board i.draft.course.steps.items i.draft.course.trail c.self.invariant in
+    let t = tick_in i.base.mission (begun_in i) i.tick i.draft.board i.draft.course.steps.items i.draft.course.trail c.self.invariant in
     let made = made_in i c.self.invariant c.args.self.now c.self.view_is c.args.part c.requires.may c.args.sv c.args.place c.args.cell c.args.grown c.requires.puts _ _ (to_z w64 (of_z w64 i.tick)) (to_z w64 (of_z w64 i.since)) c.in_ok-make_cell.ensures.made c.mission-mission.ensures.mission (omega (arith, ints, t.0, t.1)) (omega (arith, ints)) in
     range_in i c.self.invariant c.args.self.now c.self.view_is c.args.part c.requires.may c.make_cell.new.self c.in_ok-make_cell.ensures.board c.in_ok-make_cell.ensures.course made c.args.grown can.brings
 
 pub invariant_of-self-in-Ok : goal.invariant_of-self-in-Ok
 invariant_of-self-in-Ok c =
     let i = c.self.inside in
-    let t = tick_in i.base.mission (begun_in i) i.tick i.settled i.draft.board i.draft.course.steps.items i.draft.course.trail c.self.invariant in
+    let t = tick_in i.base.mission (begun_in i) i.tick i.draft.board i.draft.course.steps.items i.draft.course.trail c.self.invariant in
     let made = made_in i c.self.invariant c.args.self.now c.self.view_is c.args.part c.requires.may c.args.sv c.args.place c.args.cell c.args.grown c.requires.puts _ _ (to_z w64 (of_z w64 i.tick)) (to_z w64 (of_z w64 i.since)) c.in_ok-make_cell.ensures.made c.mission-mission.ensures.mission (omega (arith, ints, t.0, t.1)) (omega (arith, ints)) in
     put_in i c.self.invariant c.args.self.now c.self.view_is c.args.part c.requires.may c.args.sv c.args.place c.args.cell c.args.grown c.requires.puts c.make_cell.new.self c.in_ok-make_cell.ensures.board c.in_ok-make_cell.ensures.course made _ c.put.new.self c.requires.room refl refl
     (c.count_needs.ensures ∙ ap (λ (m : Mission). length (needs_of m c.args.cell.held.kind)) c.mission-mission.ensures.mission)
@@ -70,6 +70,6 @@ overflow_add-result c =
 pub returns-in-Err-clause-shut : goal.returns-in-Err-clause-shut
 returns-in-Err-clause-shut c =
     let i = c.self.inside in
-    let t = tick_in i.base.mission (begun_in i) i.tick i.settled i.draft.board i.draft.course.steps.items i.draft.course.trail c.self.invariant in
+    let t = tick_in i.base.mission (begun_in i) i.tick i.draft.board i.draft.course.steps.items i.draft.course.trail c.self.invariant in
     let made = made_in i c.self.invariant c.args.self.now c.self.view_is c.args.part c.requires.may c.args.sv c.args.place c.args.cell c.args.grown c.requires.puts _ _ (to_z w64 (of_z w64 i.tick)) (to_z w64 (of_z w64 i.since)) c.in_ok-make_cell.ensures.made c.mission-mission.ensures.mission (omega (arith, ints, t.0, t.1)) (omega (arith, ints)) in
     shut_in i c.self.invariant c.args.self.now c.self.view_is c.args.part c.requires.may c.make_cell.new.self c.in_ok-make_cell.ensures.board c.in_ok-make_cell.ensures.course made c.in-Err.shut c.in-Err.ensures.none
