@@ -1,8 +1,9 @@
 -- What the flight's dispatch decides is lawful for the executive's state.
-use Rattle.std.proofs.Common.{◌≡◌, ℕ, ◌<◌, true, List, length, Option, Some, None, refl, sym, ap, ◌∙◌, subst, arith, is_some}
-use Rattle.std.specs.Prelude.{ℤ, not, vec_capacity, MatchOption}
+use Rattle.std.proofs.Common.{◌≡◌, ℕ, ◌<◌, true, false, Bool, List, length, Option, Some, None, refl, sym, ap, ◌∙◌, subst, arith, is_some}
+use Rattle.std.specs.Prelude.{ℤ, not, vec_capacity, MatchOption, ◌&&◌, ⊤}
 use Rattle.hs_base.specs.declared.mission.Mission.{Mission}
 use Rattle.hs_base.specs.declared.net.Bound.{Bound}
+use Rattle.hs_base.specs.declared.plan.Extension.{Extension}
 use Rattle.hs_base.specs.declared.ids.PointId.{PointId}
 use Rattle.hs_machine.specs.declared.history.Deed.{Deed}
 use Rattle.hs_machine.specs.declared.history.Deed.TheVariants.{Tick}
@@ -10,7 +11,7 @@ use Rattle.hs_machine.specs.declared.history.Entry.{Entry}
 use Rattle.hs_machine.specs.declared.history.Phase.TheVariants.{Running}
 use Rattle.hs_base.specs.Moments.{MayFire, MayGoOn}
 use Rattle.hs_machine.specs.State.{executed, watched, moment_of, executes, is_failure, phase_of}
-use Rattle.hs_machine.specs.Machine.{Event, Reply, Replies, EventReply, TickReply, FireReply, ReportReply, ToldReply, RefusedIf, IsLeftBy, Turn, tick, fire, report, done, failed, over, no_net, no_point, not_observed, already, is_over}
+use Rattle.hs_machine.specs.Machine.{Event, Reply, Replies, EventReply, TickReply, FireReply, ReportReply, ToldReply, RefusedIf, IsLeftBy, Turn, tick, fire, report, done, failed, over, no_net, no_point, not_observed, already, is_over, handover, memory, is_waiting}
 use Rattle.hs_machine.specs.Run.{MayAdd}
 use Rattle.dispatcher.specs.State.{IsOpen, time_in, moment}
 use Rattle.run_laws.proofs.RunLemmas.{event_reply, otherwise}
@@ -131,3 +132,11 @@ early_from m h x b lawful =
     inside : (o : Option ℤ) → MatchOption o (RefusedIf (not (watched m h x)) not_observed (failed b) (ToldReply (moment_of m h) x (failed b))) (λ t. failed b ≡ already t) → b.from.0 ≡ x
     inside None r = let f : ToldReply (moment_of m h) x (failed b) = otherwise _ _ _ r (λ (e : failed b ≡ not_observed). cc) in ap (λ (c : Bound). c.from.0) f.1.1
     inside (Some t) r = absurd (cc)
+
+-- want of memory may be answered to a handover in every run that goes on
+pub memory_lawful : (m : Mission) (h : List Entry) (m2 : Mission) (es : List Extension) → is_over (phase_of h) ≡ false → Replies m h (handover m2 es) memory
+memory_lawful m h m2 es going = rw going (whether_waiting (is_waiting (phase_of h)))
+  where
+    whether_waiting : (waits : Bool) → RefusedIf (waits && false) no_net memory ⊤
+    whether_waiting true = tt
+    whether_waiting false = tt

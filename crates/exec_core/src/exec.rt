@@ -1,4 +1,4 @@
-ghost use Rattle.std.specs.Prelude.{◌≡◌, ◌<◌, ◌^◌, true, [], pos, length, Some, IfOk, OnOk, OnErr, MatchOption};
+ghost use Rattle.std.specs.Prelude.{◌≡◌, ◌<◌, ◌≤◌, ◌+◌, ◌^◌, true, [], pos, length, vec_len, vec_capacity, None, Some, IfOk, OnOk, OnErr, MatchOption};
 ghost use Rattle.hs_base.specs.Missions.{IsMission};
 ghost use Rattle.hs_machine.specs.State.{now_of, plan_of, phase_of, is_failure, executes};
 ghost use Rattle.hs_machine.specs.Machine.{Replies, Turn, tick, fire, report, broken, handover, done};
@@ -36,6 +36,30 @@ impl Model for Exec {
     ghost view = { λ exec. record { mission = exec.mission; history = exec.history.items } };
 
     ghost invariant = { IsKept };
+}
+
+/// Takes memory for further entries of a history. A plan behind the one in execution isn't taken yet,
+/// which is answered as want of memory.
+fn take_room(history: &mut Vec<Entry>, live: &Option<Flight>, entries: usize) -> Result<(), Memory>
+    ensures first { OnOk result (live.now ≡ None) }
+    ensures items { history.new.items ≡ history.old.items }
+    ensures len { vec_len history.new ≡ vec_len history.old }
+    ensures ok { OnOk result (vec_len history.new + entries ≤ vec_capacity history.new) }
+    ensures capacity { vec_capacity history.old ≤ vec_capacity history.new }
+    ensures err { OnErr result (vec_capacity history.new ≡ vec_capacity history.old) }
+{
+    if live.is_some() {
+        return Err(Memory);
+    }
+    history.reserve(entries)?;
+    Ok(())
+}
+
+/// Puts a plan into execution.
+fn put(live: &mut Option<Flight>, flight: Flight)
+    ensures { live.new ≡ Some flight }
+{
+    *live = Some(flight);
 }
 
 impl Exec {
@@ -208,21 +232,17 @@ impl Exec {
         ensures mission { self.new.mission ≡ self.old.mission }
         ensures err { OnErr result (self.new ≡ self.old) }
     {
-        if self.live.is_some() {
-            return Err(Memory);
-        }
-        self.history.reserve(entries_of(offer.plan()))?;
+        let entries = entries_of(offer.plan());
+        take_room(&mut self.history, &self.live, entries)?;
         let Handed {
             live,
             extension,
             net,
         } = offer.launch();
-        let Some(extension) = extension else {
-            return Err(Memory);
-        };
+        let extension = extension.unwrap();
         let deed = Deed::Handover { extension, net };
         self.history.push(Entry { by, deed }).unwrap();
-        self.live = Some(Flight::begin(live));
+        put(&mut self.live, Flight::begin(live));
         Ok(())
     }
 

@@ -1,5 +1,6 @@
-ghost use Rattle.std.specs.Prelude.{◌≡◌, ◌+◌, ◌<◌, ◌^◌, length, IfOk};
+ghost use Rattle.std.specs.Prelude.{◌≡◌, [], ◌+◌, ◌<◌, ◌^◌, length, IfOk, OnOk};
 ghost use Rattle.std.specs.Bool.{OnTrue, OnFalse};
+ghost use Rattle.hs_base.specs.Checked.{Checked};
 ghost use Rattle.hs_machine.specs.declared.history.Phase.TheVariants.{Ended};
 ghost use Rattle.hs_machine.specs.State.{count_at, phase_of};
 ghost use Rattle.hs_machine.specs.Eager.{NoneMayFire};
@@ -83,20 +84,40 @@ fn go_on(exec: &mut Exec, points: u32)
     }
 }
 
+/// An executive of the plan's mission, which has done nothing.
+fn begin(alloc: Global, plan: &CheckedPlan) -> Result<Exec, Memory>
+    ensures checked { Checked plan.now.mission plan.now.plan.extensions }
+    ensures begun { IfOk result (λ exec. exec ≡ record { mission = plan.now.mission; history = [] }) }
+{
+    Exec::begin(alloc, plan.mission().copy(alloc)?)
+}
+
+/// Hands the plan over to an executive of its mission, which has done nothing.
+fn hand_over(alloc: Global, exec: &mut Exec, plan: CheckedPlan) -> Result<(), Memory>
+    requires checked { Checked plan.mission plan.plan.extensions }
+    requires one { length plan.plan.extensions ≡ 1 }
+    requires no_devices { HasNoDevices plan.mission }
+    requires begun { exec.old ≡ record { mission = plan.mission; history = [] } }
+    ensures { OnOk result (IsLaunched plan exec.new) }
+{
+    let offer = prepare(alloc, reform(alloc, plan)?)?;
+    match exec.hand_over(OWN, offer) {
+        Reply::Done => Ok(()),
+        Reply::Memory => Err(Memory),
+        // A checked plan of one extension is refused for no other cause.
+        _ => unreachable!(),
+    }
+}
+
 /// An executive to which the plan was handed over at its beginning.
 fn launch(alloc: Global, plan: CheckedPlan) -> Result<Exec, Memory>
     requires one { length plan.plan.extensions ≡ 1 }
     requires no_devices { HasNoDevices plan.mission }
     ensures { IfOk result (IsLaunched plan) }
 {
-    let mut exec = Exec::begin(alloc, plan.mission().copy(alloc)?)?;
-    let offer = prepare(alloc, reform(alloc, plan)?)?;
-    match exec.hand_over(OWN, offer) {
-        Reply::Done => Ok(exec),
-        Reply::Memory => Err(Memory),
-        // A checked plan of one extension is refused for no other cause.
-        _ => unreachable!(),
-    }
+    let mut exec = begin(alloc, &plan)?;
+    hand_over(alloc, &mut exec, plan)?;
+    Ok(exec)
 }
 
 /// The run of a checked plan of one extension for a mission without devices. The plan is handed over
