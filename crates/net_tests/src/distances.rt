@@ -1,6 +1,9 @@
-use hs_base::{Bound, LAST, List, PointId, Time};
+ghost use Rattle.std.specs.Prelude.{◌≡◌, IfOk};
+
+use hs_base::{Bound, LAST, PointId};
+use std::alloc::Global;
 use std::test::Fail;
-use stn_distance::{Broken, close, close_fixed, solve};
+use stn_distance::{Broken, Dist, close, solve};
 
 /// The bound between two points, by their numbers.
 macro_rules! bound {
@@ -17,67 +20,59 @@ macro_rules! bound {
 fn solves(rt: HostRuntime) -> Result<(), Fail> {
     let bounds = [bound!(0, 1, 4), bound!(1, 0, -4)];
     let schedule = solve(rt.alloc(), 2, &bounds)?;
-    assert_eq!(rt; schedule.as_slice(), [0, 4].as_slice());
+    assert!(rt; schedule.as_slice() == [0, 4].as_slice());
     Ok(())
+}
+
+/// Whether the cycle is of these two bounds.
+fn is_of(cycle: &[Bound], one: Bound, other: Bound) -> bool {
+    cycle == [one, other].as_slice() || cycle == [other, one].as_slice()
+}
+
+/// Whether point 1, which stands 4 after Z, can't stand at most 3 after it.
+fn has_cycle(alloc: Global) -> bool {
+    let bounds = [bound!(0, 1, 4), bound!(1, 0, -4), bound!(0, 1, 3)];
+    match solve(alloc, 2, &bounds) {
+        Err(Broken::Cycle(cycle)) => is_of(cycle.as_slice(), bounds[1], bounds[2]),
+        _ => false,
+    }
 }
 
 #[test]
 fn finds_a_cycle(rt: HostRuntime) -> Result<(), Fail> {
-    let bounds = [bound!(0, 1, 4), bound!(1, 0, -4), bound!(0, 1, 3)];
-    match solve(rt.alloc(), 2, &bounds) {
-        Err(Broken::Cycle(cycle)) => {
-            assert_eq!(rt; cycle.len(), 2);
-            let first = cycle.as_slice()[0];
-            let second = cycle.as_slice()[1];
-            assert!(rt;
-                first == bounds[1] && second == bounds[2]
-                    || first == bounds[2] && second == bounds[1]
-            );
-        }
-        _ => panic!(rt; "no cycle"),
-    }
+    assert!(rt; has_cycle(rt.alloc()));
     Ok(())
 }
 
-#[test]
-fn closes_three_points(rt: HostRuntime) -> Result<(), Fail> {
+/// The distances of Z and two points, of which 1 stands 7 after 2.
+pub(crate) fn rigid(alloc: Global) -> Result<Dist, Broken>
+    ensures { IfOk result (λ dist. dist.count ≡ 3) }
+{
     let bounds = [
         bound!(1, 0, 0),
         bound!(0, 1, LAST),
         bound!(2, 0, 0),
         bound!(0, 2, LAST),
-        bound!(1, 0, -1),
-        bound!(0, 1, 5),
-        bound!(2, 1, -2),
-        bound!(1, 2, 3),
+        bound!(2, 1, 7),
+        bound!(1, 2, -7),
     ];
-    let dist = close(rt.alloc(), 3, &bounds)?;
-    assert_eq!(rt; dist.points(), 3);
-    assert_eq!(rt; dist.bounds().len(), 8);
-    assert_eq!(rt; dist.at(PointId(0), PointId(2)), 8);
-    assert_eq!(rt; dist.at(PointId(2), PointId(0)), -3);
-    Ok(())
+    close(alloc, 3, &bounds)
+}
+
+/// Whether these are their distances.
+fn are_rigid(dist: &Dist) -> bool
+    requires { dist.now.count ≡ 3 }
+{
+    dist.at(PointId(2), PointId(1)) == 7
+        && dist.at(PointId(1), PointId(2)) == -7
+        && dist.at(PointId(1), PointId(0)) == -7
+        && dist.at(PointId(0), PointId(2)) == LAST - 7
+        && dist.bounds().len() == 6
 }
 
 #[test]
-fn folds_a_fixed_point(rt: HostRuntime) -> Result<(), Fail> {
-    let bounds = [
-        bound!(0, 1, 10),
-        bound!(1, 0, -10),
-        bound!(2, 0, 0),
-        bound!(0, 2, LAST),
-        bound!(2, 1, -2),
-        bound!(1, 2, 3),
-    ];
-    let fixed = [Time {
-        point: PointId(1),
-        at: 10,
-    }];
-    let dist = close_fixed(rt.alloc(), 3, &fixed, &bounds)?;
-    assert_eq!(rt; dist.at(PointId(0), PointId(1)), 10);
-    assert_eq!(rt; dist.at(PointId(1), PointId(0)), -10);
-    assert_eq!(rt; dist.at(PointId(1), PointId(2)), 3);
-    assert_eq!(rt; dist.at(PointId(2), PointId(1)), -2);
-    assert_eq!(rt; dist.at(PointId(2), PointId(0)), -12);
+fn closes_three_points(rt: HostRuntime) -> Result<(), Fail> {
+    let dist = rigid(rt.alloc())?;
+    assert!(rt; are_rigid(&dist));
     Ok(())
 }

@@ -1,11 +1,15 @@
+ghost use Rattle.std.specs.Prelude.{IfOk};
+ghost use Rattle.hs_base.specs.Missions.{IsMission};
+
+use crate::distances::rigid;
 use edge_filter::{Reformed, keep, reform};
-use hs_base::{Bound, Fault, Group, LAST, Member, Net, PointId};
+use hs_base::{Bound, Extension, Fault, Group, LAST, Member, Memory, Mission, Net, PointId};
 use plan_check::{CheckedPlan, check};
 use rigid_contract::contract;
 use sample_missions::{camera, camera_extension};
 use std::alloc::Global;
 use std::test::Fail;
-use stn_distance::close;
+use stn_distance::Dist;
 
 /// The bound between two points, by their numbers.
 macro_rules! bound {
@@ -19,43 +23,35 @@ macro_rules! bound {
 }
 
 #[test]
-fn drops_dominated_edges(rt: HostRuntime) -> Result<(), Fail> {
-    let bounds = [
-        bound!(1, 0, 0),
-        bound!(0, 1, LAST),
-        bound!(2, 0, 0),
-        bound!(0, 2, LAST),
-        bound!(1, 0, -1),
-        bound!(0, 1, 5),
-        bound!(2, 1, -2),
-        bound!(1, 2, 3),
-    ];
-    let dist = close(rt.alloc(), 3, &bounds)?;
+fn leaders_have_the_edges(rt: HostRuntime) -> Result<(), Fail> {
+    let dist = rigid(rt.alloc())?;
     let groups = contract(rt.alloc(), &dist)?;
     let edges = keep(rt.alloc(), &dist, &groups)?;
-    let kept = [
-        bound!(0, 1, 5),
-        bound!(1, 0, -1),
-        bound!(1, 2, 3),
-        bound!(2, 1, -2),
-    ];
-    assert_eq!(rt; edges.as_slice(), kept.as_slice());
+    let kept = [bound!(0, 2, LAST - 7), bound!(2, 0, 0)];
+    assert!(rt; edges.as_slice() == kept.as_slice());
     Ok(())
 }
 
-#[test]
-fn a_group_has_no_edges(rt: HostRuntime) -> Result<(), Fail> {
-    let bounds = [bound!(0, 1, 4), bound!(1, 0, -4)];
-    let dist = close(rt.alloc(), 2, &bounds)?;
-    let groups = contract(rt.alloc(), &dist)?;
-    let edges = keep(rt.alloc(), &dist, &groups)?;
-    assert!(rt; edges.is_empty());
-    Ok(())
+/// The camera mission: its contract says no more than that it is one.
+fn mission(alloc: Global) -> Result<Mission, Memory>
+    ensures { IfOk result IsMission }
+{
+    camera(alloc)
 }
 
-fn planned(alloc: Global) -> Result<Reformed, Fault> {
-    let base = CheckedPlan::none(alloc, camera(alloc)?)?;
-    let plan = check(alloc, &base, camera_extension(alloc)?)?;
+/// Its plan.
+fn extension(alloc: Global) -> Result<Extension, Memory> {
+    camera_extension(alloc)
+}
+
+fn planned(alloc: Global) -> Result<CheckedPlan, Fault> {
+    let base = CheckedPlan::none(alloc, mission(alloc)?)?;
+    check(alloc, &base, extension(alloc)?)
+}
+
+/// The plan's network.
+fn reformed(alloc: Global) -> Result<Reformed, Fault> {
+    let plan = planned(alloc)?;
     Ok(reform(alloc, plan)?)
 }
 
@@ -103,9 +99,18 @@ fn is_camera_network(net: &Net) -> bool {
     are_camera_groups(net.groups.as_slice()) && are_camera_edges(net.edges.as_slice())
 }
 
+/// Whether distances to the horizon and from it are folded over Z, which it stands 100 after.
+fn are_folded(dist: &Dist) -> bool {
+    dist.points() == 8
+        && dist.at(PointId(0), PointId(1)) == 100
+        && dist.at(PointId(1), PointId(0)) == -100
+        && dist.at(PointId(1), PointId(2)) == -60
+        && dist.at(PointId(2), PointId(1)) == 80
+}
+
 fn reforms(alloc: Global) -> Result<bool, Fault> {
-    let planned = planned(alloc)?;
-    Ok(is_camera_network(planned.net()) && planned.dist().points() == 8)
+    let reformed = reformed(alloc)?;
+    Ok(is_camera_network(reformed.net()) && are_folded(reformed.dist()))
 }
 
 #[test]

@@ -1,2 +1,1 @@
 pub mod PointLemmas
-pub mod PartialPlanLemmas

@@ -1,28 +1,15 @@
-ghost use Rattle.std.specs.Prelude.{◌≡◌, [], IfOk};
+ghost use Rattle.std.specs.Prelude.{◌≡◌, []};
 
+use crate::partial_plans::root;
 use compat_resolve::{Flaw, Resolver, apply, first_flaw, resolvers, resolvers_in};
-use hs_base::{Extension, List, Memory, SvId, TokenRef, ValId};
-use plan_check::{CheckedPlan, Snapshot};
-use sample_missions::{camera, camera_extension};
+use hs_base::{Extension, Memory, SvId, TokenRef, ValId};
+use sample_missions::camera_extension;
 use std::alloc::Global;
 use std::test::Fail;
 use timeline_db::{Db, Shut};
 
 /// The numbers of the ways that lead to the camera mission's plan.
 const PATH: [usize; 8] = [0, 0, 0, 1, 0, 0, 0, 0];
-
-/// The camera mission's partial plan where nothing has happened yet.
-fn root(alloc: Global) -> Result<Db, Memory>
-    ensures { IfOk result (λ d. d.parts ≡ []) }
-{
-    let snapshot = Snapshot {
-        plan: CheckedPlan::none(alloc, camera(alloc)?)?,
-        since: 0,
-        fixed: List::new(alloc),
-        front: 0,
-    };
-    Db::begin(alloc, &snapshot)
-}
 
 /// Resolves the first flaw in the way of that number, and answers whether that has a schedule.
 fn descend(alloc: Global, db: &mut Db, way: usize) -> Result<bool, Memory> {
@@ -60,10 +47,21 @@ fn is_first(alloc: Global, db: &Db, flaw: Flaw, ways: &[Resolver]) -> Result<boo
     Ok(first == flaw && resolvers_in(room, db, first)?.as_slice() == ways)
 }
 
+/// Whether that path leads to them.
+fn leads_to(
+    alloc: Global,
+    db: &mut Db,
+    path: &[usize],
+    flaw: Flaw,
+    ways: &[Resolver],
+) -> Result<bool, Memory> {
+    Ok(walk(alloc, db, path)? && is_first(alloc, db, flaw, ways)?)
+}
+
 /// Whether they are behind that path.
 fn is_behind(alloc: Global, path: &[usize], flaw: Flaw, ways: &[Resolver]) -> Result<bool, Memory> {
     let mut db = root(alloc)?;
-    Ok(walk(alloc, &mut db, path)? && is_first(alloc, &db, flaw, ways)?)
+    leads_to(alloc, &mut db, path, flaw, ways)
 }
 
 fn gap(sv: u32, place: u32) -> Flaw {
@@ -115,15 +113,19 @@ fn a_gap_is_joined_or_followed(rt: HostRuntime) -> Result<(), Fail> {
 }
 
 /// Whether a shot that never ends is refused, and a token may follow it.
+fn refuses(alloc: Global, db: &mut Db) -> Result<bool, Memory> {
+    let ways = [Resolver::Finish, follow(0)];
+    let walked = walk(alloc, db, &PATH[..3])?;
+    let refused = !descend(alloc, db, 0)?;
+    let same = is_first(alloc, db, gap(0, 1), &ways)?;
+    let followed = descend(alloc, db, 1)?;
+    Ok(walked && refused && same && followed)
+}
+
+/// Whether the partial plan of the camera mission refuses it.
 fn is_refused(alloc: Global) -> Result<bool, Memory> {
     let mut db = root(alloc)?;
-    let ways = [Resolver::Finish, follow(0)];
-    Ok(
-        walk(alloc, &mut db, &PATH[..3])?
-            && !descend(alloc, &mut db, 0)?
-            && is_first(alloc, &db, gap(0, 1), &ways)?
-            && descend(alloc, &mut db, 1)?,
-    )
+    refuses(alloc, &mut db)
 }
 
 #[test]
@@ -132,13 +134,18 @@ fn a_refused_way_changes_nothing(rt: HostRuntime) -> Result<(), Fail> {
     Ok(())
 }
 
-/// The partial plan without flaw, and the extension that it is.
-fn resolved(alloc: Global) -> Result<Option<Extension>, Memory> {
-    let mut db = root(alloc)?;
-    if walk(alloc, &mut db, &PATH)? && first_flaw(&db).is_none() {
+/// The extension that a partial plan is, where the whole path leads to one without flaw.
+fn end_of(alloc: Global, db: &mut Db) -> Result<Option<Extension>, Memory> {
+    if walk(alloc, db, &PATH)? && first_flaw(db).is_none() {
         return Ok(Some(db.extension()?));
     }
     Ok(None)
+}
+
+/// The extension at the end of the path.
+fn resolved(alloc: Global) -> Result<Option<Extension>, Memory> {
+    let mut db = root(alloc)?;
+    end_of(alloc, &mut db)
 }
 
 #[test]
@@ -149,12 +156,19 @@ fn ends_at_the_plan(rt: HostRuntime) -> Result<(), Fail> {
 }
 
 /// Whether the first flaw is there again after an undo.
+fn leads_back(alloc: Global, db: &mut Db) -> Result<bool, Memory>
+    requires { db.old.parts ≡ [] }
+{
+    let mark = db.mark();
+    let walked = walk(alloc, db, &PATH)?;
+    db.undo(mark);
+    Ok(walked && is_first(alloc, db, Flaw::Goal(0), &[insert(0, 0, 1)])?)
+}
+
+/// Whether an undo leads back to the partial plan of the camera mission.
 fn is_undone(alloc: Global) -> Result<bool, Memory> {
     let mut db = root(alloc)?;
-    let mark = db.mark();
-    let walked = walk(alloc, &mut db, &PATH)?;
-    db.undo(mark);
-    Ok(walked && is_first(alloc, &db, Flaw::Goal(0), &[insert(0, 0, 1)])?)
+    leads_back(alloc, &mut db)
 }
 
 #[test]

@@ -4,10 +4,11 @@ ghost use Rattle.search_tree.specs.Begun.{begun_of};
 ghost use Rattle.plan_check.specs.Seen.{seen};
 ghost use Rattle.plan_search.specs.First.{outset as nothing_yet};
 
+use crate::checks::mission;
 use hs_base::{Copies, List, Memory, Mission};
 use plan_check::{CheckedPlan, Filter, Snapshot};
 use plan_search::{Found, Steps, Unplanned, first_plan, search_where};
-use sample_missions::{camera, camera_extension};
+use sample_missions::camera_extension;
 use std::alloc::Global;
 use std::marker::Brand;
 use std::sync::ledger::{Blank, Ledger};
@@ -15,7 +16,7 @@ use std::test::Fail;
 
 /// What a search of so many nodes finds for the camera mission.
 fn planned(alloc: Global, budget: u64) -> Result<CheckedPlan, Unplanned> {
-    first_plan(alloc, &camera(alloc)?, budget)
+    first_plan(alloc, &mission(alloc)?, budget)
 }
 
 /// Whether the budget ends before the node at that path.
@@ -65,7 +66,7 @@ impl Filter for NoPlans {
 }
 
 /// A mission to which nothing has happened yet.
-fn outset(alloc: Global, mission: &Mission) -> Result<Snapshot, Memory>
+pub(crate) fn outset(alloc: Global, mission: &Mission) -> Result<Snapshot, Memory>
     requires { IsMission mission.now }
     ensures mission { IfOk result (λ s. s.plan.mission ≡ mission.now) }
     ensures begun { IfOk result (λ s. begun_of (seen s) ≡ nothing_yet) }
@@ -84,7 +85,7 @@ fn untaken<L: Ledger>(alloc: Global, blank: Blank, budget: u64) -> Result<Found,
     requires parts { blank.parts ≡ L.parts }
     requires some { 0 < blank.parts }
 {
-    let mission = camera(alloc)?;
+    let mission = mission(alloc)?;
     let snapshot = outset(alloc, &mission)?;
     let mut steps = Steps::<L>::begin(blank);
     search_where(alloc, &snapshot, &mut NoPlans, budget, &mut steps)

@@ -18,9 +18,6 @@ const LOG: &[u8] =
     b"hsts log 1\nhandover 1 at 0 groups 3 edges 4\nsince 0\ntoken a p\ntoken a q\nclose\nfire a 0 at 2\nhorizon 1 at 10\nstop ended at 10\ndone\n";
 
 /// The smallest mission with other plans.
-const WRONG_BASE: &[u8] =
-    b"hsts 1 var a value p [2,4] then q value q [1,inf] begin p horizon 10 end hsts plan 1 extension 2 since 0 close end";
-
 const WRONG_ORDER: &[u8] =
     b"hsts 1 var a value p [2,4] then q value q [1,inf] begin p horizon 10 end hsts plan 1 extension 1 since 0 token a q close end";
 
@@ -77,126 +74,84 @@ fn fly(alloc: Global, text: &[u8]) -> Result<Outcome, Memory> {
 #[test]
 fn prints_missions(rt: HostRuntime) -> Result<(), Fail> {
     let alloc = rt.alloc();
-    for (text, status, lines) in [
-        (SMALLEST, Status::Done, PRINTED),
-        (BROKEN_OFF, Status::Refused, b"refused 3 at 10\n".as_slice()),
-        (PLANNED, Status::Refused, b"refused 5 at 73\n".as_slice()),
-        (
-            EXCHANGED,
-            Status::Refused,
-            b"refused 8 range 0\n".as_slice(),
-        ),
-    ] {
-        assert!(rt; says(print(alloc, text), status, lines));
-    }
+    let behind = b"refused 5 at 73\n";
+    let range = b"refused 8 range 0\n";
+    assert!(rt; says(print(alloc, SMALLEST), Status::Done, PRINTED));
+    assert!(rt; says(print(alloc, PLANNED), Status::Refused, behind));
+    assert!(rt; says(print(alloc, EXCHANGED), Status::Refused, range));
     Ok(())
 }
 
 #[test]
 fn checks_plans(rt: HostRuntime) -> Result<(), Fail> {
     let alloc = rt.alloc();
-    for (text, status, lines) in [
-        (PLANNED, Status::Done, b"ok 1\n".as_slice()),
-        (BROKEN_OFF, Status::Refused, b"refused 3 at 10\n".as_slice()),
-        (SMALLEST, Status::Refused, b"refused 3 at 72\n".as_slice()),
-        (
-            UNKNOWN,
-            Status::Refused,
-            b"refused 7 unknown r\n".as_slice(),
-        ),
-        (
-            WRONG_BASE,
-            Status::PlanRefused,
-            b"extension 1 fault 1 base 1 0\n".as_slice(),
-        ),
-        (
-            WRONG_ORDER,
-            Status::PlanRefused,
-            b"extension 1 fault 2 order a 0\n".as_slice(),
-        ),
-        (
-            TWO,
-            Status::PlanRefused,
-            b"extension 2 fault 1 base 1 1\n".as_slice(),
-        ),
-    ] {
-        assert!(rt; says(check(alloc, text), status, lines));
-    }
+    assert!(rt; says(check(alloc, PLANNED), Status::Done, b"ok 1\n"));
+    let order = b"extension 1 fault 2 order a 0\n";
+    assert!(rt; says(check(alloc, WRONG_ORDER), Status::PlanRefused, order));
+    let base = b"extension 2 fault 1 base 1 1\n";
+    assert!(rt; says(check(alloc, TWO), Status::PlanRefused, base));
     Ok(())
 }
 
 #[test]
+fn refuses_to_check(rt: HostRuntime) -> Result<(), Fail> {
+    let alloc = rt.alloc();
+    let end = b"refused 3 at 72\n";
+    let unknown = b"refused 7 unknown r\n";
+    assert!(rt; says(check(alloc, SMALLEST), Status::Refused, end));
+    assert!(rt; says(check(alloc, UNKNOWN), Status::Refused, unknown));
+    Ok(())
+}
+
+/// Whether the outcome is a cycle, of which the bounds are told.
+fn is_cycle(outcome: Result<Outcome, Memory>) -> bool {
+    match outcome {
+        Ok(outcome) => {
+            outcome.status == Status::PlanRefused
+                && outcome
+                    .text
+                    .as_bytes()
+                    .starts_with(b"extension 1 fault 7 cycle\n")
+        }
+        Err(Memory) => false,
+    }
+}
+
+#[test]
 fn names_the_bounds_of_a_cycle(rt: HostRuntime) -> Result<(), Fail> {
-    let outcome = check(rt.alloc(), TOO_SHORT).map_err(|_| "memory")?;
-    assert_eq!(rt; outcome.status, Status::PlanRefused);
-    let begins = outcome
-        .text
-        .as_bytes()
-        .starts_with(b"extension 1 fault 7 cycle\n");
-    assert!(rt; begins);
+    assert!(rt; is_cycle(check(rt.alloc(), TOO_SHORT)));
     Ok(())
 }
 
 #[test]
 fn flies_plain_missions(rt: HostRuntime) -> Result<(), Fail> {
     let alloc = rt.alloc();
-    for (text, status, lines) in [
-        (PLANNED, Status::Done, LOG),
-        (SMALLEST, Status::Done, LOG),
-        (
-            UNPLANNABLE,
-            Status::NoPlan,
-            b"hsts log 1\nstop waiting at 0\nno plan after 0\n".as_slice(),
-        ),
-        (DEVICE, Status::Refused, b"refused 0\n".as_slice()),
-        (BROKEN_OFF, Status::Refused, b"refused 3 at 10\n".as_slice()),
-        (
-            UNKNOWN,
-            Status::Refused,
-            b"refused 7 unknown r\n".as_slice(),
-        ),
-        (
-            WRONG_ORDER,
-            Status::PlanRefused,
-            b"extension 1 fault 2 order a 0\n".as_slice(),
-        ),
-        (
-            TWO,
-            Status::PlanRefused,
-            b"extension 2 fault 1 base 2 0\n".as_slice(),
-        ),
-    ] {
-        assert!(rt; says(fly(alloc, text), status, lines));
-    }
+    let none = b"hsts log 1\nstop waiting at 0\nno plan after 0\n";
+    assert!(rt; says(fly(alloc, PLANNED), Status::Done, LOG));
+    assert!(rt; says(fly(alloc, SMALLEST), Status::Done, LOG));
+    assert!(rt; says(fly(alloc, UNPLANNABLE), Status::NoPlan, none));
+    Ok(())
+}
+
+#[test]
+fn refuses_to_fly(rt: HostRuntime) -> Result<(), Fail> {
+    let alloc = rt.alloc();
+    assert!(rt; says(fly(alloc, DEVICE), Status::Refused, b"refused 0\n"));
+    let off = b"refused 3 at 10\n";
+    assert!(rt; says(fly(alloc, BROKEN_OFF), Status::Refused, off));
+    let base = b"extension 2 fault 1 base 2 0\n";
+    assert!(rt; says(fly(alloc, TWO), Status::PlanRefused, base));
     Ok(())
 }
 
 #[test]
 fn plans_missions(rt: HostRuntime) -> Result<(), Fail> {
     let alloc = rt.alloc();
-    for (text, budget, status, lines) in [
-        (SMALLEST, BUDGET, Status::Done, PLAN),
-        (
-            SMALLEST,
-            1,
-            Status::Budget,
-            b"budget after 0 path 0\n".as_slice(),
-        ),
-        (
-            UNPLANNABLE,
-            BUDGET,
-            Status::NoPlan,
-            b"no plan after 0\n".as_slice(),
-        ),
-        (
-            PLANNED,
-            BUDGET,
-            Status::Refused,
-            b"refused 5 at 73\n".as_slice(),
-        ),
-    ] {
-        assert!(rt; says(plan(alloc, text, budget), status, lines));
-    }
+    let budget = b"budget after 0 path 0\n";
+    let none = b"no plan after 0\n";
+    assert!(rt; says(plan(alloc, SMALLEST, BUDGET), Status::Done, PLAN));
+    assert!(rt; says(plan(alloc, SMALLEST, 1), Status::Budget, budget));
+    assert!(rt; says(plan(alloc, UNPLANNABLE, BUDGET), Status::NoPlan, none));
     assert!(rt; says(net(alloc, SMALLEST, BUDGET), Status::Done, NET));
     Ok(())
 }
@@ -217,19 +172,32 @@ fn repeated(
     Ok(text)
 }
 
+/// The plan of that row.
+fn row(alloc: Global) -> Result<Vec<u8>, AllocError> {
+    let head = b"hsts plan 1\nextension 1\nsince 0\n";
+    repeated(alloc, head, b"token a p\ntoken a q\n", 64, b"close\nend\n")
+}
+
+/// The path at which so many nodes end a search for it.
+fn path(alloc: Global) -> Result<Vec<u8>, AllocError> {
+    repeated(alloc, b"budget after 0 path", b" 1", 127, b" 0\n")
+}
+
 #[test]
 fn takes_256_nodes_for_128_tokens(rt: HostRuntime) -> Result<(), Fail> {
     let alloc = rt.alloc();
-    let head = b"hsts plan 1\nextension 1\nsince 0\n";
-    let filled = repeated(alloc, head, b"token a p\ntoken a q\n", 64, b"close\nend\n")?;
-    let path = repeated(alloc, b"budget after 0 path", b" 1", 127, b" 0\n")?;
-    for (text, budget, status, lines) in [
-        (ROW, 255, Status::Budget, path.as_slice()),
-        (ROW, 256, Status::Done, filled.as_slice()),
-        (LONGER_ROW, 255, Status::Budget, path.as_slice()),
-        (LONGER_ROW, 256, Status::NoPlan, b"no plan after 0\n"),
-    ] {
-        assert!(rt; says(plan(alloc, text, budget), status, lines));
-    }
+    let row = row(alloc)?;
+    let path = path(alloc)?;
+    let none = b"no plan after 0\n";
+    assert!(rt; says(plan(alloc, ROW, 255), Status::Budget, path.as_slice()));
+    assert!(rt; says(plan(alloc, ROW, 256), Status::Done, row.as_slice()));
+    assert!(rt;
+        says(
+            plan(alloc, LONGER_ROW, 255),
+            Status::Budget,
+            path.as_slice()
+        )
+    );
+    assert!(rt; says(plan(alloc, LONGER_ROW, 256), Status::NoPlan, none));
     Ok(())
 }

@@ -1,285 +1,188 @@
+ghost use Rattle.std.specs.Prelude.{◌<◌};
+
 use exec_main::ground;
-use hs_base::{List, VARIABLES};
+use hs_base::{List, Memory, VARIABLES};
 use hs_port::{MemDevice, MemSink, MemSource};
-use std::alloc::{AllocError, Global};
+use std::alloc::Global;
 use std::test::Fail;
 
 /// The smallest mission, of durations alone.
-const MISSION: &str = "hsts 1 var a value p [2,4] then q value q [1,inf] begin p horizon 10 end ";
+const MISSION: &[u8] = b"hsts 1 var a value p [2,4] then q value q [1,inf] begin p horizon 10 end";
 
 const PRINTED: &[u8] =
     b"hsts 1\nvar a\nvalue p [2,4] then q\nvalue q [1,inf]\nbegin p\nhorizon 10\nend\n";
 
-/// A plan for it.
-const PLAN: &str = "hsts plan 1 extension 1 since 0 token a p token a q close end";
-
-/// Plans that it refuses: one that begins with the wrong value, and one of two extensions.
-const MISBEGUN: &str = "hsts plan 1 extension 1 since 0 token a q close end";
-
-const TWICE: &str =
-    "hsts plan 1 extension 1 since 0 token a p token a q close extension 2 since 0 close end";
+/// The mission with its plan, and the log of its flight.
+const PLANNED: &[u8] =
+    b"hsts 1 var a value p [2,4] then q value q [1,inf] begin p horizon 10 end hsts plan 1 extension 1 since 0 token a p token a q close end";
 
 const LOG: &[u8] =
     b"hsts log 1\nhandover 1 at 0 groups 3 edges 4\nsince 0\ntoken a p\ntoken a q\nclose\nfire a 0 at 2\nhorizon 1 at 10\nstop ended at 10\ndone\n";
 
-/// The plan as it is written, and its network.
-const PLANNED: &[u8] = b"hsts plan 1\nextension 1\nsince 0\ntoken a p\ntoken a q\nclose\nend\n";
-
-const NET: &[u8] =
-    b"hsts net 1\ngroups 3 edges 4\ngroup Z\nmember H 1 10\ngroup a 0\ngroup a 1\nedge Z a 0 4\nedge Z a 1 1000000000\nedge a 0 Z -2\nedge a 1 Z -11\nend\n";
+/// The mission with a plan that begins with the wrong value.
+const MISBEGUN: &[u8] =
+    b"hsts 1 var a value p [2,4] then q value q [1,inf] begin p horizon 10 end hsts plan 1 extension 1 since 0 token a q close end";
 
 /// A mission whose only token is too short for the horizon.
-const UNPLANNABLE: &str = "hsts 1 var a value p [2,4] begin p horizon 10 end";
+const UNPLANNABLE: &[u8] = b"hsts 1 var a value p [2,4] begin p horizon 10 end";
 
 const USAGE: &[u8] = b"usage: hsts COMMAND [--budget N] [--seed N] [--size N]\n";
 
-/// How the outside behaves: which read and which write fail, counted from 0, and how much a write takes.
+/// How the outside behaves: which read and which write fail, counted from 0.
 #[derive(Clone, Copy)]
 struct Outside {
     read: u64,
     write: u64,
-    most: u64,
 }
 
 /// Nothing fails.
 const WELL: Outside = Outside {
     read: 1_000,
     write: 1_000,
-    most: 10,
 };
 
-fn words(alloc: Global, words: &[&str]) -> Result<Vec<String>, AllocError> {
-    let mut all = Vec::new(alloc);
-    for word in words {
-        all.push(String::from_str(alloc, word)?)?;
+/// The words of a line, cut at blanks.
+fn words(alloc: Global, line: &str) -> Result<Vec<String>, Memory> {
+    let mut words = Vec::new(alloc);
+    for word in line.split(' ') {
+        words.push(String::from_str(alloc, word)?)?;
     }
-    Ok(all)
+    Ok(words)
 }
 
-fn devices(alloc: Global) -> Result<Vec<MemDevice>, Fail> {
+fn source(alloc: Global, text: &[u8], outside: Outside) -> Result<MemSource, Memory> {
+    let fail = List::from_vec([outside.read].to_vec(alloc)?);
+    Ok(MemSource::begin(List::from_vec(text.to_vec(alloc)?), fail))
+}
+
+/// Room for the output, of which a write takes so many bytes.
+fn sink(alloc: Global, most: u64, outside: Outside) -> Result<MemSink, Memory>
+    requires { 0 < most }
+{
+    let fail = List::from_vec([outside.write].to_vec(alloc)?);
+    MemSink::begin(alloc, 1_000, most, fail)
+}
+
+fn devices(alloc: Global) -> Result<Vec<MemDevice>, Memory> {
     let mut devices = Vec::new(alloc);
     for _ in 0..VARIABLES {
-        let device = MemDevice::begin(alloc, 0, List::new(alloc), List::new(alloc));
-        devices.push(device.map_err(|_| "memory")?)?;
+        let device = MemDevice::begin(alloc, 0, List::new(alloc), List::new(alloc))?;
+        devices.push(device)?;
     }
     Ok(devices)
 }
 
-fn joined(alloc: Global, front: &str, rest: &str) -> Result<Vec<u8>, AllocError> {
-    let mut text = front.as_bytes().to_vec(alloc)?;
-    text.extend_from_slice(rest.as_bytes())?;
-    Ok(text)
-}
-
-/// The status of a run, and what was written.
-fn run(
-    rt: &impl std::process::Abort,
+/// The status of a run, which has its sixteen devices.
+fn status(
     alloc: Global,
-    asked: &[&str],
-    input: &[u8],
-    outside: Outside,
-) -> Result<(u8, Vec<u8>), Fail> {
-    let fail = List::from_vec([outside.read].to_vec(alloc)?);
-    let mut source = MemSource::begin(List::from_vec(input.to_vec(alloc)?), fail);
-    let fail = List::from_vec([outside.write].to_vec(alloc)?);
-    assert!(rt; 1 <= outside.most);
-    let mut sink = MemSink::begin(alloc, 1_000, outside.most, fail).map_err(|_| "memory")?;
+    line: &str,
+    source: &mut MemSource,
+    sink: &mut MemSink,
+) -> Result<Option<u8>, Memory> {
+    let words = words(alloc, line)?;
     let mut devices = devices(alloc)?;
-    assert_eq!(rt; devices.len(), 16);
-    let words = words(alloc, asked)?;
+    if devices.len() != 16 {
+        return Ok(None);
+    }
     let status = ground(
         alloc,
         words.as_slice(),
-        &mut source,
-        &mut sink,
+        source,
+        sink,
         devices.as_mut_slice(),
     );
-    let written = sink.taken().to_vec(alloc)?;
-    Ok((status, written))
+    Ok(Some(status))
 }
 
-/// Whether a run ends with this status and writes this.
-fn ends(
-    rt: &impl std::process::Abort,
+/// Whether a run ends with this status and writes this, in writes of so many bytes.
+fn writes(
     alloc: Global,
-    asked: &[&str],
-    input: &[u8],
+    line: &str,
+    text: &[u8],
+    most: u64,
     outside: Outside,
-    status: u8,
+    ended: u8,
     output: &[u8],
-) -> Result<bool, Fail> {
-    let (ended, written) = run(rt, alloc, asked, input, outside)?;
-    Ok(ended == status && written.as_slice() == output)
+) -> Result<bool, Memory>
+    requires { 0 < most }
+{
+    let mut source = source(alloc, text, outside)?;
+    let mut sink = sink(alloc, most, outside)?;
+    let status = status(alloc, line, &mut source, &mut sink)?;
+    Ok(status == Some(ended) && sink.taken() == output)
+}
+
+/// Whether the flight of the smallest mission ends with this status and writes this.
+fn flies(
+    alloc: Global,
+    most: u64,
+    outside: Outside,
+    ended: u8,
+    output: &[u8],
+) -> Result<bool, Memory>
+    requires { 0 < most }
+{
+    writes(alloc, "sim", PLANNED, most, outside, ended, output)
 }
 
 #[test]
 fn the_smallest_mission_is_flown(rt: HostRuntime) -> Result<(), Fail> {
-    let text = joined(rt.alloc(), MISSION, PLAN)?;
-    for most in [1, 10, 1_000] {
-        let outside = Outside { most, ..WELL };
-        assert!(rt; ends(&rt, rt.alloc(), &["sim"], text.as_slice(), outside, 0, LOG)?);
-    }
+    let alloc = rt.alloc();
+    assert!(rt; flies(alloc, 1, WELL, 0, LOG)?);
+    assert!(rt; flies(alloc, 10, WELL, 0, LOG)?);
+    assert!(rt; flies(alloc, 1_000, WELL, 0, LOG)?);
     Ok(())
+}
+
+/// Whether nothing is written where that read fails.
+fn is_unread(alloc: Global, read: u64) -> Result<bool, Memory> {
+    flies(alloc, 10, Outside { read, ..WELL }, 6, b"")
 }
 
 #[test]
 fn a_failing_read_writes_nothing(rt: HostRuntime) -> Result<(), Fail> {
-    let text = joined(rt.alloc(), MISSION, PLAN)?;
-    for read in 0..2u64 {
-        let outside = Outside { read, ..WELL };
-        assert!(rt; ends(&rt, rt.alloc(), &["sim"], text.as_slice(), outside, 6, b"")?);
-    }
+    assert!(rt; is_unread(rt.alloc(), 0)?);
+    assert!(rt; is_unread(rt.alloc(), 1)?);
     Ok(())
+}
+
+/// Whether that front of the log is left where that write fails.
+fn leaves(alloc: Global, write: u64, front: &[u8]) -> Result<bool, Memory> {
+    flies(alloc, 10, Outside { write, ..WELL }, 7, front)
 }
 
 #[test]
 fn a_failing_write_leaves_a_front(rt: HostRuntime) -> Result<(), Fail> {
-    let text = joined(rt.alloc(), MISSION, PLAN)?;
-    for write in 0..13u64 {
-        let outside = Outside { write, ..WELL };
-        let count = (write * 10) as usize;
-        assert!(rt; count <= LOG.len());
-        let front = &LOG[..count];
-        assert!(rt;
-            ends(
-                &rt,
-                rt.alloc(),
-                &["sim"],
-                text.as_slice(),
-                outside,
-                7,
-                front
-            )?
-        );
-    }
+    let alloc = rt.alloc();
+    assert!(rt; leaves(alloc, 0, b"")?);
+    assert!(rt; leaves(alloc, 1, b"hsts log 1")?);
+    let front =
+        b"hsts log 1\nhandover 1 at 0 groups 3 edges 4\nsince 0\ntoken a p\ntoken a q\nclose\nfire a 0 at 2\nhorizon 1 at 10\nstop ended a";
+    assert!(rt; leaves(alloc, 12, front)?);
     Ok(())
 }
 
-#[test]
-fn missions_are_printed(rt: HostRuntime) -> Result<(), Fail> {
-    let texts: [(&str, u8, &[u8]); 3] = [
-        (MISSION, 0, PRINTED),
-        ("", 2, b"refused 3 at 0\n"),
-        ("hsts 1", 2, b"refused 3 at 6\n"),
-    ];
-    for (text, status, output) in texts {
-        assert!(rt;
-            ends(
-                &rt,
-                rt.alloc(),
-                &["print"],
-                text.as_bytes(),
-                WELL,
-                status,
-                output
-            )?
-        );
-    }
-    Ok(())
+/// Whether a run ends with this status and writes this.
+fn ends(alloc: Global, line: &str, text: &[u8], ended: u8, output: &[u8]) -> Result<bool, Memory> {
+    writes(alloc, line, text, 1_000, WELL, ended, output)
 }
 
 #[test]
-fn plans_are_checked(rt: HostRuntime) -> Result<(), Fail> {
-    let plans: [(&str, u8, &[u8]); 3] = [
-        (PLAN, 0, b"ok 1\n"),
-        (MISBEGUN, 11, b"extension 1 fault 2 order a 0\n"),
-        ("", 2, b"refused 3 at 73\n"),
-    ];
-    for (plan, status, output) in plans {
-        let text = joined(rt.alloc(), MISSION, plan)?;
-        assert!(rt;
-            ends(
-                &rt,
-                rt.alloc(),
-                &["check"],
-                text.as_slice(),
-                WELL,
-                status,
-                output
-            )?
-        );
-    }
-    Ok(())
-}
-
-#[test]
-fn other_plans_are_not_flown(rt: HostRuntime) -> Result<(), Fail> {
-    let plans: [(&str, u8, &[u8]); 3] = [
-        (MISBEGUN, 11, b"extension 1 fault 2 order a 0\n"),
-        (TWICE, 11, b"extension 2 fault 1 base 2 0\n"),
-        ("hsts 1", 2, b"refused 3 at 78\n"),
-    ];
-    for (plan, status, output) in plans {
-        let text = joined(rt.alloc(), MISSION, plan)?;
-        assert!(rt;
-            ends(
-                &rt,
-                rt.alloc(),
-                &["sim"],
-                text.as_slice(),
-                WELL,
-                status,
-                output
-            )?
-        );
-    }
-    Ok(())
-}
-
-#[test]
-fn missions_alone_are_planned(rt: HostRuntime) -> Result<(), Fail> {
-    let asked: [(&[&str], u8, &[u8]); 4] = [
-        (&["plan"], 0, PLANNED),
-        (&["net"], 0, NET),
-        (&["sim"], 0, LOG),
-        (&["plan", "--budget", "1"], 4, b"budget after 0 path 0\n"),
-    ];
-    for (words, status, output) in asked {
-        assert!(rt;
-            ends(
-                &rt,
-                rt.alloc(),
-                words,
-                MISSION.as_bytes(),
-                WELL,
-                status,
-                output
-            )?
-        );
-    }
-    Ok(())
-}
-
-#[test]
-fn missions_without_a_plan_are_told(rt: HostRuntime) -> Result<(), Fail> {
-    let asked: [(&[&str], &[u8]); 2] = [
-        (&["net"], b"no plan after 0\n"),
-        (
-            &["sim"],
-            b"hsts log 1\nstop waiting at 0\nno plan after 0\n",
-        ),
-    ];
-    for (words, output) in asked {
-        assert!(rt;
-            ends(
-                &rt,
-                rt.alloc(),
-                words,
-                UNPLANNABLE.as_bytes(),
-                WELL,
-                3,
-                output
-            )?
-        );
-    }
+fn each_command_ends_with_its_status(rt: HostRuntime) -> Result<(), Fail> {
+    let alloc = rt.alloc();
+    let order = b"extension 1 fault 2 order a 0\n";
+    let budget = b"budget after 0 path 0\n";
+    assert!(rt; ends(alloc, "print", MISSION, 0, PRINTED)?);
+    assert!(rt; ends(alloc, "check", MISBEGUN, 11, order)?);
+    assert!(rt; ends(alloc, "plan --budget 1", MISSION, 4, budget)?);
+    assert!(rt; ends(alloc, "net", UNPLANNABLE, 3, b"no plan after 0\n")?);
+    assert!(rt; ends(alloc, "sim", b"hsts 1", 2, b"refused 3 at 6\n")?);
     Ok(())
 }
 
 #[test]
 fn other_words_are_answered_by_the_usage_line(rt: HostRuntime) -> Result<(), Fail> {
-    let asked: [&[&str]; 3] = [&[], &["fly", "sim"], &["fly"]];
-    for words in asked {
-        assert!(rt; ends(&rt, rt.alloc(), words, MISSION.as_bytes(), WELL, 1, USAGE)?);
-    }
+    assert!(rt; ends(rt.alloc(), "fly sim", MISSION, 1, USAGE)?);
+    assert!(rt; ends(rt.alloc(), "fly", MISSION, 1, USAGE)?);
     Ok(())
 }

@@ -1,8 +1,9 @@
-use hs_base::{List, Name, ValId, Var, WordId};
+use hs_base::{List, Memory, Name, ValId, Var, WordId};
 use hs_port::{
     Answer, Clock, Device, Failed, Gate, MemClock, MemDevice, MemSink, MemSource, NoGate, Order,
     Place, PlainClock, Sink, Source, StdSink, StdSource, SureClock, SureSink, SureSource,
 };
+use std::alloc::{AllocError, Global};
 use std::io;
 use std::io::{ErrorKind, Read};
 use std::test::Fail;
@@ -17,98 +18,172 @@ impl Read for Broken {
     }
 }
 
-#[test]
-fn sources(rt: HostRuntime) -> Result<(), Fail> {
-    let alloc = rt.alloc();
+/// Whether a read gives just these bytes.
+fn gives(source: &mut impl Source, bytes: &[u8]) -> bool {
+    let mut into = [0u8; 2];
+    match source.read(&mut into) {
+        Ok(count) => count == bytes.len() && into.starts_with(bytes),
+        Err(Failed) => false,
+    }
+}
+
+fn fails_to_read(source: &mut impl Source) -> bool {
+    source.read(&mut [0u8; 2]).is_err()
+}
+
+/// Three bytes, whose second read fails.
+fn mem_source(alloc: Global) -> Result<MemSource, AllocError> {
     let bytes = List::from_vec([1, 2, 3].to_vec(alloc)?);
     let fail = List::from_vec([1].to_vec(alloc)?);
-    let mut source = MemSource::begin(bytes, fail);
-    let mut into = [0u8; 2];
-    assert_eq!(rt; source.read(&mut into), Ok(2));
-    assert_eq!(rt; into, [1, 2]);
-    assert_eq!(rt; source.read(&mut into), Err(Failed));
-    assert_eq!(rt; source.read(&mut into), Ok(1));
-    assert_eq!(rt; into[0], 3);
-    assert_eq!(rt; source.read(&mut into), Ok(0));
-    assert_eq!(rt; source.count(), 1);
-    let mut sure = SureSource::begin(List::from_vec([4, 5].to_vec(alloc)?));
-    assert_eq!(rt; sure.read(&mut into), Ok(2));
-    assert_eq!(rt; (into, sure.count()), ([4, 5], 0));
-    let bytes: &[u8] = &[6];
-    let mut reader = StdSource::new(bytes);
-    assert_eq!(rt; reader.read(&mut into), Ok(1));
-    assert_eq!(rt; (into[0], reader.count()), (6, 0));
-    let mut broken = StdSource::new(Broken);
-    assert_eq!(rt; broken.read(&mut into), Err(Failed));
-    assert_eq!(rt; broken.count(), 1);
+    Ok(MemSource::begin(bytes, fail))
+}
+
+/// Whether it gives its bytes around its fault.
+fn is_read(source: &mut MemSource) -> bool {
+    let first = gives(source, &[1, 2]) && fails_to_read(source);
+    let rest = gives(source, &[3]) && gives(source, &[]);
+    first && rest && source.count() == 1
+}
+
+#[test]
+fn sources(rt: HostRuntime) -> Result<(), Fail> {
+    let mut source = mem_source(rt.alloc())?;
+    assert!(rt; is_read(&mut source));
     Ok(())
 }
 
 #[test]
-fn sinks(rt: HostRuntime) -> Result<(), Fail> {
-    let alloc = rt.alloc();
-    let fail = List::from_vec([1].to_vec(alloc)?);
-    let mut sink = MemSink::begin(alloc, 3, 2, fail)?;
-    let writes = [Ok(2), Err(Failed), Ok(1), Err(Failed)];
-    for (n, answer) in writes.iter().enumerate() {
-        assert_eq!(rt; sink.write(&[7, 8, 9]), *answer, "write {n}");
+fn sure_sources(rt: HostRuntime) -> Result<(), Fail> {
+    let mut source = SureSource::begin(List::from_vec([4, 5].to_vec(rt.alloc())?));
+    assert!(rt; gives(&mut source, &[4, 5]) && source.count() == 0);
+    Ok(())
+}
+
+#[test]
+fn readers(rt: HostRuntime) -> Result<(), Fail> {
+    let bytes: &[u8] = &[6];
+    let mut reader = StdSource::new(bytes);
+    assert!(rt; gives(&mut reader, &[6]) && reader.count() == 0);
+    let mut broken = StdSource::new(Broken);
+    assert!(rt; fails_to_read(&mut broken) && broken.count() == 1);
+    Ok(())
+}
+
+/// Whether a write takes so many of these bytes.
+fn takes(sink: &mut impl Sink, piece: &[u8], count: usize) -> bool {
+    match sink.write(piece) {
+        Ok(taken) => taken == count,
+        Err(Failed) => false,
     }
-    assert_eq!(rt; sink.write(&[]), Ok(0));
-    assert_eq!(rt; sink.taken(), [7, 8, 7].as_slice());
-    assert_eq!(rt; sink.count(), 2);
-    let mut sure = SureSink::new();
-    assert_eq!(rt; sure.write(&[1, 2]), Ok(2));
-    assert_eq!(rt; sure.count(), 0);
-    let mut writer = StdSink::new(Vec::<u8>::new(alloc));
-    assert_eq!(rt; writer.write(&[1, 2]), Ok(2));
-    assert_eq!(rt; writer.count(), 0);
+}
+
+fn fails_to_write(sink: &mut impl Sink) -> bool {
+    sink.write(&[7, 8, 9]).is_err()
+}
+
+/// Room for three bytes, two a write, of which the second fails.
+fn mem_sink(alloc: Global) -> Result<MemSink, Memory> {
+    let fail = List::from_vec([1].to_vec(alloc)?);
+    MemSink::begin(alloc, 3, 2, fail)
+}
+
+/// Whether it takes bytes around its fault, until it is full.
+fn is_written(sink: &mut MemSink) -> bool {
+    let first = takes(sink, &[7, 8, 9], 2) && fails_to_write(sink);
+    let rest = takes(sink, &[7, 8, 9], 1) && fails_to_write(sink) && takes(sink, &[], 0);
+    first && rest && sink.taken() == [7, 8, 7].as_slice() && sink.count() == 2
+}
+
+#[test]
+fn sinks(rt: HostRuntime) -> Result<(), Fail> {
+    let mut sink = mem_sink(rt.alloc())?;
+    assert!(rt; is_written(&mut sink));
+    Ok(())
+}
+
+#[test]
+fn sure_sinks(rt: HostRuntime) -> Result<(), Fail> {
+    let mut sink = SureSink::new();
+    assert!(rt; takes(&mut sink, &[1, 2], 2) && sink.count() == 0);
+    Ok(())
+}
+
+#[test]
+fn writers(rt: HostRuntime) -> Result<(), Fail> {
+    let mut writer = StdSink::new(Vec::<u8>::new(rt.alloc()));
+    assert!(rt; takes(&mut writer, &[1, 2], 2) && writer.count() == 0);
     let nowhere: &mut [u8] = &mut [];
     let mut full = StdSink::new(nowhere);
-    assert_eq!(rt; full.write(&[1]), Err(Failed));
-    assert_eq!(rt; full.count(), 1);
+    assert!(rt; fails_to_write(&mut full) && full.count() == 1);
     Ok(())
+}
+
+fn ticks(clock: &mut impl Clock) -> bool {
+    clock.tick().is_ok()
+}
+
+/// Whether its second tick fails.
+fn is_ticked(clock: &mut MemClock) -> bool {
+    let ticked = ticks(clock) && !ticks(clock) && ticks(clock);
+    ticked && clock.ticks() == 2 && clock.count() == 1
 }
 
 #[test]
 fn clocks_and_gate(rt: HostRuntime) -> Result<(), Fail> {
     let mut clock = MemClock::begin(List::from_vec([1].to_vec(rt.alloc())?));
-    assert_eq!(rt; clock.tick(), Ok(()));
-    assert_eq!(rt; clock.tick(), Err(Failed));
-    assert_eq!(rt; clock.tick(), Ok(()));
-    assert_eq!(rt; (clock.ticks(), clock.count()), (2, 1));
+    assert!(rt; is_ticked(&mut clock));
     let mut sure = SureClock::new();
-    assert_eq!(rt; sure.tick(), Ok(()));
-    assert_eq!(rt; sure.count(), 0);
+    assert!(rt; ticks(&mut sure) && sure.count() == 0);
     let mut plain = PlainClock::new();
-    assert_eq!(rt; plain.tick(), Ok(()));
-    assert_eq!(rt; plain.count(), 0);
+    assert!(rt; ticks(&mut plain) && plain.count() == 0);
     NoGate::new().at(Place::Planning(1));
     Ok(())
 }
 
-#[test]
-fn devices(rt: HostRuntime) -> Result<(), Fail> {
-    let alloc = rt.alloc();
+/// A device with room for two polls and one answer, whose third call fails.
+fn mem_device(alloc: Global) -> Result<MemDevice, Memory> {
     let answers = List::from_vec([Answer::Said(WordId(3))].to_vec(alloc)?);
     let fail = List::from_vec([2].to_vec(alloc)?);
-    let mut device = MemDevice::begin(alloc, 2, answers, fail)?;
+    MemDevice::begin(alloc, 2, answers, fail)
+}
+
+fn is_loaded(alloc: Global, device: &mut MemDevice) -> bool {
     let var = Var {
         name: Name::from_vec(Vec::new(alloc)),
         values: List::new(alloc),
         begin: ValId(0),
     };
-    assert_eq!(rt; device.load(alloc, &var), Ok(()));
+    device.load(alloc, &var).is_ok()
+}
+
+fn is_told(device: &mut MemDevice) -> bool {
     let order = Order::Begin {
         value: ValId(0),
         now: 4,
     };
-    assert_eq!(rt; device.tell(order), Ok(()));
-    assert_eq!(rt; device.poll(5), Ok(Answer::Said(WordId(3))));
-    assert_eq!(rt; device.poll(6), Err(Failed));
-    assert_eq!(rt; device.poll(7), Ok(Answer::Quiet));
-    assert_eq!(rt; device.poll(8), Err(Failed));
+    device.tell(order).is_ok()
+}
+
+fn answers(device: &mut MemDevice, now: i64, answer: Answer) -> bool {
+    match device.poll(now) {
+        Ok(given) => given == answer,
+        Err(Failed) => false,
+    }
+}
+
+/// Whether it answers around its fault, until it has no room.
+fn is_polled(device: &mut MemDevice) -> bool {
+    let said = answers(device, 5, Answer::Said(WordId(3))) && device.poll(6).is_err();
+    let quiet = answers(device, 7, Answer::Quiet) && device.poll(8).is_err();
+    said && quiet && device.count() == 2
+}
+
+#[test]
+fn devices(rt: HostRuntime) -> Result<(), Fail> {
+    let mut device = mem_device(rt.alloc())?;
+    assert!(rt; is_loaded(rt.alloc(), &mut device) && is_told(&mut device));
+    assert!(rt; is_polled(&mut device));
     let polls = [(5, Answer::Said(WordId(3))), (7, Answer::Quiet)];
-    assert_eq!(rt; device.polls(), polls.as_slice());
-    assert_eq!(rt; device.count(), 2);
+    assert!(rt; device.polls() == polls.as_slice());
     Ok(())
 }

@@ -10,12 +10,13 @@ use std::alloc::Global;
 use std::test::Fail;
 
 /// The smallest mission with its plan.
-fn planned(alloc: Global) -> Result<CheckedPlan, Fault>
+pub(crate) fn planned(alloc: Global) -> Result<CheckedPlan, Fault>
     ensures mission { IfOk result (λ p. p.mission ≡ smallest) }
     ensures one { IfOk result (λ p. length p.plan.extensions ≡ 1) }
 {
+    let extension = smallest_extension(alloc)?;
     let base = CheckedPlan::none(alloc, smallest(alloc)?)?;
-    check(alloc, &base, smallest_extension(alloc)?)
+    check(alloc, &base, extension)
 }
 
 /// Whether a plan was handed over first, and then just these deeds were done.
@@ -31,11 +32,16 @@ fn flew(history: &[Entry], deeds: &[Deed]) -> bool {
     matches!(history[0].deed, Deed::Handover { .. })
 }
 
+/// Whether its flight has just these deeds behind the handover.
+fn is_flown(alloc: Global, deeds: &[Deed]) -> Result<bool, Fault> {
+    let plan = planned(alloc)?;
+    let exec = fly(alloc, plan)?;
+    Ok(flew(exec.history(), deeds))
+}
+
 /// The first token ends at its least, at 2, and the last one not before the horizon.
 #[test]
 fn flies_the_smallest_plan(rt: HostRuntime) -> Result<(), Fail> {
-    let plan = planned(rt.alloc()).map_err(|_| "a fault")?;
-    let exec = fly(rt.alloc(), plan)?;
     let deeds = [
         Deed::Tick,
         Deed::Tick,
@@ -50,6 +56,6 @@ fn flies_the_smallest_plan(rt: HostRuntime) -> Result<(), Fail> {
         Deed::Tick,
         Deed::Fire(PointId(1)),
     ];
-    assert!(rt; flew(exec.history(), &deeds));
+    assert!(rt; matches!(is_flown(rt.alloc(), &deeds), Ok(true)));
     Ok(())
 }

@@ -1,14 +1,14 @@
+use crate::flights::planned;
 use edge_filter::reform;
 use horizon_handover::{Handed, Offer, prepare};
 use hs_base::{Extension, Fault};
-use plan_check::{CheckedPlan, check};
-use sample_missions::{smallest, smallest_extension};
+use sample_missions::smallest_extension;
 use std::alloc::Global;
 use std::test::Fail;
 
-fn offer(alloc: Global) -> Result<Offer, Fault> {
-    let base = CheckedPlan::none(alloc, smallest(alloc)?)?;
-    let plan = check(alloc, &base, smallest_extension(alloc)?)?;
+/// The smallest mission's plan, ready to be handed over.
+pub(crate) fn offer(alloc: Global) -> Result<Offer, Fault> {
+    let plan = planned(alloc)?;
     Ok(prepare(alloc, reform(alloc, plan)?)?)
 }
 
@@ -23,10 +23,9 @@ fn is_launched(handed: &Handed, extension: &Extension) -> bool {
 }
 
 fn launches(alloc: Global) -> Result<bool, Fault> {
-    let offer = offer(alloc)?;
     let extension = smallest_extension(alloc)?;
-    let offered = offer.plan().plan().extensions.as_slice().first() == Some(&extension);
-    Ok(offered && is_launched(&offer.launch(), &extension))
+    let handed = offer(alloc)?.launch();
+    Ok(is_launched(&handed, &extension))
 }
 
 #[test]

@@ -1,57 +1,12 @@
-ghost use Rattle.std.specs.Prelude.{◌≡◌, ◌+◌, ◌^◌, ◌<◌, IfOk};
+ghost use Rattle.std.specs.Prelude.{◌≡◌, ◌+◌, ◌^◌, ◌<◌, length, IfOk};
 ghost use Rattle.hs_machine.specs.State.{count_at};
 
-use hs_base::{
-    Bound, Extension, Group, Kind, LAST, List, Memory, Mission, Name, Net, PointId, Range, SvId,
-    Time, ValId, Value, Var,
-};
+use hs_base::{Bound, Extension, Group, List, Memory, Net, PointId, Time};
 use hs_machine::{Deed, Entry};
 use journal_text::write;
+use sample_missions::{camera, camera_extension, smallest_extension};
 use std::alloc::Global;
 use std::test::Fail;
-
-fn value(alloc: Global, name: &[u8]) -> Result<Value, Memory> {
-    Ok(Value {
-        name: Name::from_bytes(alloc, name)?,
-        lasts: Range { low: 1, high: LAST },
-        by_device: false,
-        next: List::new(alloc),
-        script: List::new(alloc),
-        answers: List::new(alloc),
-    })
-}
-
-fn var(alloc: Global, name: &[u8], values: &[&[u8]]) -> Result<Var, Memory> {
-    let mut list = List::new(alloc);
-    for name in values {
-        list.push(value(alloc, name)?)?;
-    }
-    Ok(Var {
-        name: Name::from_bytes(alloc, name)?,
-        values: list,
-        begin: ValId(0),
-    })
-}
-
-/// Two variables with two values each.
-fn mission(alloc: Global) -> Result<Mission, Memory> {
-    let mut vars = List::new(alloc);
-    vars.push(var(alloc, b"a", &[b"p", b"q"])?)?;
-    vars.push(var(alloc, b"c", &[b"m", b"n"])?)?;
-    Ok(Mission {
-        vars,
-        needs: List::new(alloc),
-        horizons: List::new(alloc),
-        words: List::new(alloc),
-    })
-}
-
-fn kind(sv: u32, value: u32) -> Kind {
-    Kind {
-        sv: SvId(sv),
-        value: ValId(value),
-    }
-}
 
 fn bound(from: u32, to: u32, most: i64) -> Bound {
     Bound {
@@ -61,34 +16,53 @@ fn bound(from: u32, to: u32, most: i64) -> Bound {
     }
 }
 
-fn net(alloc: Global, groups: usize, edges: usize) -> Result<Net, Memory> {
-    let mut net = Net {
-        groups: List::new(alloc),
-        edges: List::new(alloc),
-    };
-    for _ in 0..groups {
-        net.groups.push(Group {
+fn groups(alloc: Global, count: usize) -> Result<List<Group>, Memory> {
+    let mut groups = List::new(alloc);
+    for _ in 0..count {
+        groups.push(Group {
             leader: PointId(0),
             members: List::new(alloc),
         })?;
     }
-    for _ in 0..edges {
-        net.edges.push(bound(0, 0, 0))?;
-    }
-    Ok(net)
+    Ok(groups)
 }
 
-fn extension(alloc: Global, base: u32, since: i64, fixed: Vec<Time>, tokens: Vec<Kind>) -> Extension
-    ensures { result.tokens ≡ tokens.items }
-{
-    Extension {
-        base,
-        since,
-        fixed: List::from_vec(fixed),
-        tokens: List::from_vec(tokens),
-        supports: List::new(alloc),
-        goals: List::new(alloc),
+fn edges(alloc: Global, count: usize) -> Result<List<Bound>, Memory> {
+    let mut edges = List::new(alloc);
+    for _ in 0..count {
+        edges.push(bound(0, 0, 0))?;
     }
+    Ok(edges)
+}
+
+/// Of a network its log tells the sizes alone.
+fn net(alloc: Global, group_count: usize, edge_count: usize) -> Result<Net, Memory> {
+    Ok(Net {
+        groups: groups(alloc, group_count)?,
+        edges: edges(alloc, edge_count)?,
+    })
+}
+
+/// An extension of a plan that has one, from that tick on.
+fn next_extension(alloc: Global, since: i64) -> Result<Extension, Memory>
+    ensures { IfOk result (λ e. length e.tokens ≡ 2) }
+{
+    let mut extension = smallest_extension(alloc)?;
+    extension.base = 1;
+    extension.since = since;
+    Ok(extension)
+}
+
+/// One that fixes a point of the first.
+fn fixing_extension(alloc: Global) -> Result<Extension, Memory>
+    ensures { IfOk result (λ e. length e.tokens ≡ 2) }
+{
+    let mut extension = next_extension(alloc, 1)?;
+    extension.fixed.push(Time {
+        point: PointId(2),
+        at: 1,
+    })?;
+    Ok(extension)
 }
 
 fn entry(deed: Deed) -> Entry
@@ -97,114 +71,53 @@ fn entry(deed: Deed) -> Entry
     Entry { by: 0, deed }
 }
 
+fn handover(extension: Extension, net: Net) -> Entry
+    ensures { result.deed ≡ Deed.Handover extension net }
+{
+    entry(Deed::Handover { extension, net })
+}
+
 fn tick() -> Entry
     ensures { result.deed ≡ Deed.Tick }
 {
     entry(Deed::Tick)
 }
 
-/// The history of the smallest mission: its token p ends as soon as it may.
-fn smallest(alloc: Global) -> Result<Vec<Entry>, Memory>
-    ensures { IfOk result (λ history. count_at history.items + 1 < 2 ^ 32) }
-{
-    let plan = Deed::Handover {
-        extension: extension(
-            alloc,
-            0,
-            0,
-            vec![in alloc]?,
-            vec![in alloc; kind(0, 0), kind(0, 1)]?,
-        ),
-        net: net(alloc, 3, 4)?,
-    };
-    Ok(vec![in alloc;
-        entry(plan),
-        tick(),
-        tick(),
-        entry(Deed::Fire(PointId(2))),
-        tick(),
-        tick(),
-        tick(),
-        tick(),
-        tick(),
-        tick(),
-        tick(),
-        tick(),
-        entry(Deed::Fire(PointId(1))),
-    ]?)
-}
-
 /// A history with a plan that comes too late, a report and a failure.
 fn troubled(alloc: Global) -> Result<Vec<Entry>, Memory>
     ensures { IfOk result (λ history. count_at history.items + 1 < 2 ^ 32) }
 {
-    let first = Deed::Handover {
-        extension: extension(
-            alloc,
-            0,
-            0,
-            vec![in alloc]?,
-            vec![in alloc; kind(0, 0), kind(0, 1), kind(1, 0)]?,
-        ),
-        net: net(alloc, 4, 7)?,
-    };
+    let first = handover(camera_extension(alloc)?, net(alloc, 4, 7)?);
+    let second = handover(fixing_extension(alloc)?, net(alloc, 5, 9)?);
     let stale = Deed::Stale {
-        extension: extension(
-            alloc,
-            1,
-            0,
-            vec![in alloc]?,
-            vec![in alloc; kind(0, 0), kind(1, 1)]?,
-        ),
-        bound: bound(7, 5, -1),
+        extension: next_extension(alloc, 0)?,
+        bound: bound(9, 8, -1),
         from_time: 12,
         to_time: 11,
     };
-    let second = Deed::Handover {
-        extension: extension(
-            alloc,
-            1,
-            2,
-            vec![in alloc;
-                Time {
-                    point: PointId(2),
-                    at: 2
-                },
-            ]?,
-            vec![in alloc; kind(0, 0), kind(1, 1)]?,
-        ),
-        net: net(alloc, 5, 9)?,
-    };
     Ok(vec![in alloc;
-        entry(first),
-        tick(),
+        first,
         tick(),
         entry(Deed::Report(PointId(2))),
         entry(stale),
-        entry(second),
+        second,
         tick(),
-        entry(Deed::Late(bound(2, 6, 1))),
+        entry(Deed::Late(bound(5, 9, 1))),
     ]?)
 }
 
-#[test]
-fn writes_the_log_of_the_smallest_mission(rt: HostRuntime) -> Result<(), Fail> {
-    let mission = mission(rt.alloc())?;
-    let history = smallest(rt.alloc())?;
-    let text = write(rt.alloc(), &mission, history.as_slice())?;
-    let lines =
-        "hsts log 1\nhandover 1 at 0 groups 3 edges 4\nsince 0\ntoken a p\ntoken a q\nclose\nfire a 0 at 2\nhorizon 1 at 10\nstop ended at 10\n";
-    assert_eq!(rt; text.as_bytes(), lines.as_bytes());
-    Ok(())
+/// Whether its log has these lines.
+fn is_troubled_log(alloc: Global, lines: &[u8]) -> Result<bool, Memory> {
+    let history = troubled(alloc)?;
+    let mission = camera(alloc)?;
+    let text = write(alloc, &mission, history.as_slice())?;
+    Ok(text.as_bytes() == lines)
 }
 
 #[test]
 fn writes_a_stale_plan_and_a_failure(rt: HostRuntime) -> Result<(), Fail> {
-    let mission = mission(rt.alloc())?;
-    let history = troubled(rt.alloc())?;
-    let text = write(rt.alloc(), &mission, history.as_slice())?;
     let lines =
-        "hsts log 1\nhandover 1 at 0 groups 4 edges 7\nsince 0\ntoken a p\ntoken a q\ntoken c m\nclose\nreport a 0 at 2\nstale 2 at 2 bound c 1 to H 2 most -1 times 12 11\nsince 0\ntoken a p\ntoken c n\nclose\nhandover 2 at 2 groups 5 edges 9\nsince 2\nfix a 0 2\ntoken a p\ntoken c n\nclose\nlate a 0 to a 2 most 1 at 3\nstop failed at 3\n";
-    assert_eq!(rt; text.as_bytes(), lines.as_bytes());
+        b"hsts log 1\nhandover 1 at 0 groups 4 edges 7\nsince 0\ntoken camera idle\ntoken camera shoot\ntoken camera idle\ntoken attitude earth\ntoken attitude turn\ntoken attitude comet\nsupport camera 1 0 attitude 2\ngoal 0 camera 1\nclose\nreport camera 0 at 1\nstale 2 at 1 bound camera 3 to H 2 most -1 times 12 11\nsince 0\ntoken camera idle\ntoken camera shoot\nclose\nhandover 2 at 1 groups 5 edges 9\nsince 1\nfix camera 0 1\ntoken camera idle\ntoken camera shoot\nclose\nlate attitude 0 to camera 3 most 1 at 2\nstop failed at 2\n";
+    assert!(rt; matches!(is_troubled_log(rt.alloc(), lines), Ok(true)));
     Ok(())
 }

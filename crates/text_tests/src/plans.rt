@@ -1,50 +1,33 @@
-ghost use Rattle.std.specs.Prelude.{◌≡◌, ◌^◌, ◌<◌, IfOk};
+ghost use Rattle.std.specs.Prelude.{◌≡◌, ◌^◌, ◌<◌, length, IfOk};
+ghost use Rattle.base_laws.specs.Samples.{camera_plan};
 ghost use Rattle.hs_base.specs.Points.{count};
 
 use ddl_read::Pieces;
 use hs_base::{
     Bound, Extension, Group, Kind, LAST, List, Member, Memory, Mission, Name, Net, Plan, PointId,
-    Range, Same, Support, SvId, Time, TokenRef, ValId, Value, Var,
+    Same, SvId, Time, TokenRef, ValId,
 };
-use hs_texts::Refusal;
+use hs_texts::{Refusal, Text};
 use plan_text::{point_text, read, write, write_net};
+use sample_missions::{camera, camera_extension};
 use std::alloc::Global;
 use std::test::Fail;
 
-fn value(alloc: Global, name: &[u8]) -> Result<Value, Memory> {
-    Ok(Value {
-        name: Name::from_bytes(alloc, name)?,
-        lasts: Range { low: 1, high: LAST },
-        by_device: false,
-        next: List::new(alloc),
-        script: List::new(alloc),
-        answers: List::new(alloc),
-    })
+/// The plan of the camera mission.
+fn camera_plan(alloc: Global) -> Result<Plan, Memory>
+    ensures { IfOk result (λ plan. plan.extensions ≡ camera_plan) }
+{
+    let mut extensions = List::new(alloc);
+    extensions.push(camera_extension(alloc)?)?;
+    Ok(Plan { extensions })
 }
 
-fn var(alloc: Global, name: &[u8], values: &[&[u8]]) -> Result<Var, Memory> {
-    let mut list = List::new(alloc);
-    for name in values {
-        list.push(value(alloc, name)?)?;
-    }
-    Ok(Var {
-        name: Name::from_bytes(alloc, name)?,
-        values: list,
-        begin: ValId(0),
-    })
-}
-
-/// The names of the camera mission.
-fn camera(alloc: Global) -> Result<Mission, Memory> {
-    let mut vars = List::new(alloc);
-    vars.push(var(alloc, b"camera", &[b"idle", b"shoot"])?)?;
-    vars.push(var(alloc, b"attitude", &[b"earth", b"turn", b"comet"])?)?;
-    Ok(Mission {
-        vars,
-        needs: List::new(alloc),
-        horizons: List::new(alloc),
-        words: List::new(alloc),
-    })
+fn times(alloc: Global) -> Result<List<Time>, Memory> {
+    let times = [Time {
+        point: PointId(2),
+        at: 20,
+    }];
+    Ok(List::from_vec(Vec::from_slice(alloc, &times)?))
 }
 
 fn kind(sv: u32, value: u32) -> Kind {
@@ -54,108 +37,136 @@ fn kind(sv: u32, value: u32) -> Kind {
     }
 }
 
-fn token(sv: u32, place: u32) -> TokenRef {
-    TokenRef {
-        sv: SvId(sv),
-        place,
-    }
+fn kinds(alloc: Global) -> Result<List<Kind>, Memory>
+    ensures { IfOk result (λ kinds. length kinds ≡ 2) }
+{
+    let kinds = [kind(0, 0), kind(1, 1)];
+    Ok(List::from_vec(Vec::from_slice(alloc, &kinds)?))
 }
 
-/// The plan of the camera mission.
-fn camera_plan(alloc: Global) -> Result<Plan, Memory>
-    ensures { IfOk result (λ plan. count plan.extensions < 2 ^ 32) }
+fn goals(alloc: Global) -> Result<List<TokenRef>, Memory> {
+    let goals = [TokenRef {
+        sv: SvId(1),
+        place: 3,
+    }];
+    Ok(List::from_vec(Vec::from_slice(alloc, &goals)?))
+}
+
+/// An extension that fixes the end of the first token.
+fn later(alloc: Global) -> Result<Extension, Memory>
+    ensures { IfOk result (λ e. length e.tokens ≡ 2) }
 {
-    let tokens = vec![in alloc;
-        kind(0, 0),
-        kind(0, 1),
-        kind(0, 0),
-        kind(1, 0),
-        kind(1, 1),
-        kind(1, 2),
-    ]?;
-    let support = Support {
-        token: token(0, 1),
-        need: 0,
-        by: token(1, 2),
-    };
-    let extension = Extension {
-        base: 0,
-        since: 0,
-        fixed: List::new(alloc),
-        tokens: List::from_vec(tokens),
-        supports: List::from_vec(vec![in alloc; support]?),
-        goals: List::from_vec(vec![in alloc; token(0, 1)]?),
-    };
-    Ok(Plan {
-        extensions: List::from_vec(vec![in alloc; extension]?),
+    Ok(Extension {
+        base: 1,
+        since: 20,
+        fixed: times(alloc)?,
+        tokens: kinds(alloc)?,
+        supports: List::new(alloc),
+        goals: goals(alloc)?,
     })
 }
 
-fn extension(alloc: Global, base: u32, since: i64, tokens: Vec<Kind>) -> Extension
-    ensures { result.tokens ≡ tokens.items }
-{
-    Extension {
-        base,
-        since,
-        fixed: List::new(alloc),
-        tokens: List::from_vec(tokens),
-        supports: List::new(alloc),
-        goals: List::new(alloc),
-    }
-}
-
-/// A plan of two extensions, of which the second fixes the end of the first token.
+/// The camera mission's plan with that extension.
 fn later_plan(alloc: Global) -> Result<Plan, Memory>
     ensures { IfOk result (λ plan. count plan.extensions < 2 ^ 32) }
 {
-    let first = extension(
-        alloc,
-        0,
-        0,
-        vec![in alloc; kind(0, 0), kind(0, 1), kind(1, 0)]?,
-    );
-    let second = Extension {
-        base: 1,
-        since: 2,
-        fixed: List::from_vec(vec![in alloc;
-            Time {
-                point: PointId(2),
-                at: 2
-            },
-        ]?),
-        tokens: List::from_vec(vec![in alloc; kind(0, 0), kind(1, 1)]?),
-        supports: List::new(alloc),
-        goals: List::from_vec(vec![in alloc; token(1, 1)]?),
-    };
-    Ok(Plan {
-        extensions: List::from_vec(vec![in alloc; first, second]?),
-    })
+    let mut plan = camera_plan(alloc)?;
+    plan.extensions.push(later(alloc)?)?;
+    Ok(plan)
 }
 
-fn bound(from: u32, to: u32, most: i64) -> Bound {
-    Bound {
-        from: PointId(from),
-        to: PointId(to),
-        most,
+/// Whether the plan is written so, and read back.
+fn is_spelled(alloc: Global, mission: &Mission, plan: &Plan, lines: &[u8]) -> Result<bool, Refusal>
+    requires { count plan.now.extensions < 2 ^ 32 }
+{
+    let text = write(alloc, mission, plan)?;
+    let pieces = Pieces::cut(alloc, text.as_bytes())?;
+    let again = read(alloc, mission, &pieces, 0)?;
+    Ok(text.as_bytes() == lines && again.same(plan))
+}
+
+#[test]
+fn spells_the_plan_of_the_camera_mission(rt: HostRuntime) -> Result<(), Fail> {
+    let mission = camera(rt.alloc())?;
+    let plan = camera_plan(rt.alloc())?;
+    let lines =
+        b"hsts plan 1\nextension 1\nsince 0\ntoken camera idle\ntoken camera shoot\ntoken camera idle\ntoken attitude earth\ntoken attitude turn\ntoken attitude comet\nsupport camera 1 0 attitude 2\ngoal 0 camera 1\nclose\nend\n";
+    assert!(rt; is_spelled(rt.alloc(), &mission, &plan, lines)?);
+    Ok(())
+}
+
+#[test]
+fn counts_places_through_extensions(rt: HostRuntime) -> Result<(), Fail> {
+    let mission = camera(rt.alloc())?;
+    let plan = later_plan(rt.alloc())?;
+    let lines =
+        b"hsts plan 1\nextension 1\nsince 0\ntoken camera idle\ntoken camera shoot\ntoken camera idle\ntoken attitude earth\ntoken attitude turn\ntoken attitude comet\nsupport camera 1 0 attitude 2\ngoal 0 camera 1\nclose\nextension 2\nsince 20\nfix camera 0 20\ntoken camera idle\ntoken attitude turn\ngoal 0 attitude 3\nclose\nend\n";
+    assert!(rt; is_spelled(rt.alloc(), &mission, &plan, lines)?);
+    Ok(())
+}
+
+/// Whether the point is spelled so.
+fn is_name(
+    alloc: Global,
+    mission: &Mission,
+    plan: &Plan,
+    point: u32,
+    name: &str,
+) -> Result<bool, Memory>
+    requires { count plan.now.extensions < 2 ^ 32 }
+{
+    let text = point_text(alloc, mission, plan, PointId(point))?;
+    Ok(text.as_bytes() == name.as_bytes())
+}
+
+#[test]
+fn names_points(rt: HostRuntime) -> Result<(), Fail> {
+    let mission = camera(rt.alloc())?;
+    let plan = later_plan(rt.alloc())?;
+    for (point, name) in [
+        (0u32, "Z"),
+        (1, "H 1"),
+        (5, "attitude 0"),
+        (8, "H 2"),
+        (9, "camera 3"),
+        (10, "attitude 3"),
+        (11, ""),
+    ] {
+        assert!(rt;
+            is_name(rt.alloc(), &mission, &plan, point, name)?,
+            "point {point}"
+        );
+    }
+    Ok(())
+}
+
+fn group(alloc: Global, leader: u32) -> Group {
+    Group {
+        leader: PointId(leader),
+        members: List::new(alloc),
     }
 }
 
-/// The network of the camera mission's plan.
-fn camera_net(alloc: Global) -> Result<Net, Memory> {
+/// The group of Z, with the first horizon.
+fn first_group(alloc: Global) -> Result<Group, Memory> {
+    let mut group = group(alloc, 0);
+    group.members.push(Member {
+        point: PointId(1),
+        offset: 100,
+    })?;
+    Ok(group)
+}
+
+fn groups(alloc: Global) -> Result<List<Group>, Memory> {
     let mut groups = List::new(alloc);
-    for leader in [0u32, 2, 3, 4, 5, 6, 7] {
-        let mut members = List::new(alloc);
-        if leader == 0 {
-            members.push(Member {
-                point: PointId(1),
-                offset: 100,
-            })?;
-        }
-        groups.push(Group {
-            leader: PointId(leader),
-            members,
-        })?;
+    groups.push(first_group(alloc)?)?;
+    for leader in 2..8 {
+        groups.push(group(alloc, leader))?;
     }
+    Ok(groups)
+}
+
+fn edges(alloc: Global) -> Result<List<Bound>, Memory> {
     let mut edges = List::new(alloc);
     for (from, to, most) in [
         (0u32, 2u32, 40i64),
@@ -173,113 +184,75 @@ fn camera_net(alloc: Global) -> Result<Net, Memory> {
         (6, 5, -10),
         (7, 0, -101),
     ] {
-        edges.push(bound(from, to, most))?;
+        edges.push(Bound {
+            from: PointId(from),
+            to: PointId(to),
+            most,
+        })?;
     }
-    Ok(Net { groups, edges })
+    Ok(edges)
 }
 
-#[test]
-fn writes_the_plan_of_the_camera_mission(rt: HostRuntime) -> Result<(), Fail> {
-    let mission = camera(rt.alloc())?;
-    let plan = camera_plan(rt.alloc())?;
-    let text = write(rt.alloc(), &mission, &plan)?;
-    let lines =
-        "hsts plan 1\nextension 1\nsince 0\ntoken camera idle\ntoken camera shoot\ntoken camera idle\ntoken attitude earth\ntoken attitude turn\ntoken attitude comet\nsupport camera 1 0 attitude 2\ngoal 0 camera 1\nclose\nend\n";
-    assert_eq!(rt; text.as_bytes(), lines.as_bytes());
-    Ok(())
-}
-
-#[test]
-fn counts_places_through_extensions(rt: HostRuntime) -> Result<(), Fail> {
-    let mission = camera(rt.alloc())?;
-    let plan = later_plan(rt.alloc())?;
-    let text = write(rt.alloc(), &mission, &plan)?;
-    let lines =
-        "hsts plan 1\nextension 1\nsince 0\ntoken camera idle\ntoken camera shoot\ntoken attitude earth\nclose\nextension 2\nsince 2\nfix camera 0 2\ntoken camera idle\ntoken attitude turn\ngoal 0 attitude 1\nclose\nend\n";
-    assert_eq!(rt; text.as_bytes(), lines.as_bytes());
-    for (point, name) in [
-        (0u32, "Z"),
-        (1, "H 1"),
-        (4, "attitude 0"),
-        (5, "H 2"),
-        (6, "camera 2"),
-        (7, "attitude 1"),
-        (8, ""),
-    ] {
-        let text = point_text(rt.alloc(), &mission, &plan, PointId(point))?;
-        assert_eq!(rt; text.as_bytes(), name.as_bytes(), "point {point}");
-    }
-    Ok(())
+/// The text of the network of the camera mission's plan.
+fn net_text(alloc: Global) -> Result<Text, Memory> {
+    let net = Net {
+        groups: groups(alloc)?,
+        edges: edges(alloc)?,
+    };
+    write_net(alloc, &camera(alloc)?, &camera_plan(alloc)?, &net)
 }
 
 #[test]
 fn writes_the_network_of_the_camera_mission(rt: HostRuntime) -> Result<(), Fail> {
-    let mission = camera(rt.alloc())?;
-    let plan = camera_plan(rt.alloc())?;
-    let net = camera_net(rt.alloc())?;
-    let text = write_net(rt.alloc(), &mission, &plan, &net)?;
+    let text = net_text(rt.alloc())?;
     let lines =
-        "hsts net 1\ngroups 7 edges 14\ngroup Z\nmember H 1 100\ngroup camera 0\ngroup camera 1\ngroup camera 2\ngroup attitude 0\ngroup attitude 1\ngroup attitude 2\nedge Z camera 0 40\nedge Z camera 2 1000000000\nedge Z attitude 0 30\nedge Z attitude 2 1000000000\nedge camera 0 Z -20\nedge camera 0 camera 1 5\nedge camera 0 attitude 0 -10\nedge camera 0 attitude 1 0\nedge camera 1 camera 0 -3\nedge camera 2 Z -101\nedge attitude 0 Z -1\nedge attitude 0 attitude 1 12\nedge attitude 1 attitude 0 -10\nedge attitude 2 Z -101\nend\n";
-    assert_eq!(rt; text.as_bytes(), lines.as_bytes());
+        b"hsts net 1\ngroups 7 edges 14\ngroup Z\nmember H 1 100\ngroup camera 0\ngroup camera 1\ngroup camera 2\ngroup attitude 0\ngroup attitude 1\ngroup attitude 2\nedge Z camera 0 40\nedge Z camera 2 1000000000\nedge Z attitude 0 30\nedge Z attitude 2 1000000000\nedge camera 0 Z -20\nedge camera 0 camera 1 5\nedge camera 0 attitude 0 -10\nedge camera 0 attitude 1 0\nedge camera 1 camera 0 -3\nedge camera 2 Z -101\nedge attitude 0 Z -1\nedge attitude 0 attitude 1 12\nedge attitude 1 attitude 0 -10\nedge attitude 2 Z -101\nend\n";
+    assert!(rt; text.as_bytes() == lines.as_slice());
     Ok(())
 }
 
-#[test]
-fn reads_what_it_writes(rt: HostRuntime) -> Result<(), Fail> {
-    let mission = camera(rt.alloc())?;
-    for plan in [camera_plan(rt.alloc())?, later_plan(rt.alloc())?] {
-        let text = write(rt.alloc(), &mission, &plan)?;
-        let pieces = Pieces::cut(rt.alloc(), text.as_bytes())?;
-        let again = read(rt.alloc(), &mission, &pieces, 0)?;
-        assert!(rt; again.same(&plan));
+/// Whether the text is refused as a plan of the camera mission so.
+fn is_refused(alloc: Global, mission: &Mission, text: &str, refusal: &Refusal) -> bool {
+    match Pieces::cut(alloc, text.as_bytes()) {
+        Ok(pieces) => read(alloc, mission, &pieces, 0).err().as_ref() == Some(refusal),
+        Err(_) => false,
     }
-    Ok(())
+}
+
+/// Whether it is refused at that place, where something else was expected.
+fn is_refused_at(alloc: Global, mission: &Mission, text: &str, at: u32) -> bool {
+    is_refused(alloc, mission, text, &Refusal::Expected { at })
 }
 
 #[test]
 fn refuses_at_the_first_piece(rt: HostRuntime) -> Result<(), Fail> {
+    let alloc = rt.alloc();
+    let mission = camera(alloc)?;
+    let origin = "hsts plan 1 extension 1 since 0 fix Z 0 close end";
+    assert!(rt; is_refused_at(alloc, &mission, origin, 36));
+    let no_time = "hsts plan 1 extension 1 since 0 fix camera close end";
+    assert!(rt; is_refused_at(alloc, &mission, no_time, 43));
+    let no_point = "hsts plan 1 extension 1 since 0 fix camera 0 3 close end";
+    assert!(rt; is_refused_at(alloc, &mission, no_point, 36));
+    let no_number = "hsts plan 1 extension 0 since 0 close end";
+    assert!(rt; is_refused_at(alloc, &mission, no_number, 22));
+    assert!(rt; is_refused_at(alloc, &mission, "hsts plan 2 end", 10));
+    let goal = "hsts plan 1 extension 1 since 0 goal 1 camera 0 close end";
+    assert!(rt; is_refused_at(alloc, &mission, goal, 37));
+    let no_end = "hsts plan 1 extension 1 since 0 token lens idle close";
+    assert!(rt; is_refused_at(alloc, &mission, no_end, 53));
+    Ok(())
+}
+
+#[test]
+fn refuses_the_rest_and_unknown_names(rt: HostRuntime) -> Result<(), Fail> {
     let mission = camera(rt.alloc())?;
-    for (text, refusal) in [
-        (
-            "hsts plan 1 extension 1 since 0 fix Z 0 close end",
-            Refusal::Expected { at: 36 },
-        ),
-        (
-            "hsts plan 1 extension 1 since 0 fix camera 0 3 close end",
-            Refusal::Expected { at: 36 },
-        ),
-        (
-            "hsts plan 1 extension 1 since 0 fix camera close end",
-            Refusal::Expected { at: 43 },
-        ),
-        (
-            "hsts plan 1 extension 0 since 0 close end",
-            Refusal::Expected { at: 22 },
-        ),
-        ("hsts plan 2 end", Refusal::Expected { at: 10 }),
-        (
-            "hsts plan 1 extension 1 since 0 goal 1 camera 0 close end",
-            Refusal::Expected { at: 37 },
-        ),
-        (
-            "hsts plan 1 extension 1 since 0 token lens idle close",
-            Refusal::Expected { at: 53 },
-        ),
-        ("hsts plan 1 end end", Refusal::Trailing { at: 16 }),
-    ] {
-        let pieces = Pieces::cut(rt.alloc(), text.as_bytes())?;
-        assert_eq!(rt;
-            read(rt.alloc(), &mission, &pieces, 0),
-            Err(refusal),
-            "{text}"
-        );
-    }
+    let trailing = Refusal::Trailing { at: 16 };
+    assert!(rt; is_refused(rt.alloc(), &mission, "hsts plan 1 end end", &trailing));
+    let unknown = Refusal::Unknown {
+        name: Name::from_bytes(rt.alloc(), b"lens")?,
+    };
     let text = "hsts plan 1 extension 1 since 0 token camera lens token lens idle close end";
-    let pieces = Pieces::cut(rt.alloc(), text.as_bytes())?;
-    let name = Name::from_bytes(rt.alloc(), b"lens")?;
-    assert_eq!(rt;
-        read(rt.alloc(), &mission, &pieces, 0),
-        Err(Refusal::Unknown { name })
-    );
+    assert!(rt; is_refused(rt.alloc(), &mission, text, &unknown));
     Ok(())
 }

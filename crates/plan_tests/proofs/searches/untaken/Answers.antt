@@ -10,4 +10,4 @@ pub search_where-requires : goal.search_where-requires
 search_where-requires g c =
     let s = c.in_ok-snapshot.snapshot in
     let m = c.in_ok-mission.mission in
-    subst (λ (x : Mission). MayBegin x (begun_of (seen s))) (sym c.in_ok-snapshot.ensures.mission) (subst (λ (b : Begun). MayBegin m b) (sym c.in_ok-snapshot.ensures.begun) (begins_anywhere m c.in_ok-mission.ensures.mission))
+    subst (λ (x : Mission). MayBegin x (begun_of (seen s))) (sym c.in_ok-snapshot.ensures.mission) (subst (λ (b : Begun). MayBegin m b) (sym c.in_ok-snapshot.ensures.begun) (begins_anywhere m c.in_ok-mission.ensures))
