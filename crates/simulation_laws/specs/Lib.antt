@@ -1,0 +1,9 @@
+pub mod Alike
+pub mod Hearing
+pub mod Reported
+pub mod Standing
+pub mod Ending
+pub mod Attended
+pub mod Planned
+pub mod Simulated
+pub mod Ended
