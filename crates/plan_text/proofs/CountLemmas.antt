@@ -1,8 +1,10 @@
 -- Numbers that count, and counted tokens.
-use Rattle.std.proofs.Common.{◌≡◌, ℕ, zero, suc, ◌+◌, ◌<◌, Bool, true, false, cond, not, ◌||◌, nat_lt, List, [], ◌∷◌, ◌++◌, length, map, filter, take, get_or, refl, sym, ap, ◌∙◌, subst, append_assoc, append-nil, arith}
-use Rattle.std.specs.Prelude.{ℤ, pos, Some, None, slice_get, slice_set, Err}
+use Rattle.std.proofs.Common.{◌≡◌, ℕ, zero, suc, ◌+◌, ◌-◌, ◌<◌, ◌≤◌, Bool, true, false, cond, not, ◌||◌, nat_lt, List, [], ◌∷◌, ◌++◌, length, map, filter, take, get_or, refl, sym, ap, ◌∙◌, subst, append_assoc, append-nil, length-append, inl, inr, arith}
+use Rattle.std.specs.Prelude.{ℤ, pos, Some, None, slice_get, slice_set, Err, count_by}
 use Rattle.std.proofs.lemmas.List.{map-append, length_push, take_more}
+use Rattle.std.proofs.lemmas.Bool.{lt-ltb, le-ltb, cases_lt}
 use Rattle.std.proofs.lemmas.List.Elements.{filter-append}
+use Rattle.std.proofs.lemmas.List.Recursion.{is_count_by}
 use Rattle.std.proofs.lemmas.Grind.{flat_map-append}
 use Rattle.std.proofs.lemmas.Slice.Eq.{bytes_eq-Decides}
 use Rattle.std.specs.List.{list_any}
@@ -151,3 +153,40 @@ counted_point m es counts t v n h c k =
 -- a variable's token has a count
 pub counted_there : (m : Mission) (es : List WrittenExtension) (counts : List ℕ) (name : List ℕ) (v : ℕ) → variable_at m.vars name ≡ Some v → Counts m.vars (token_names es) counts → slice_get counts v ≡ None → ⊥
 counted_there m es counts name v h c k = counts_none m.vars (token_names es) counts name v c h k
+
+-- A further extension.
+
+longer : {A : Type 0} (b : Bool) (x : A) (xs : List A) → length (cond b (x ∷ xs) xs) ≡ cond b (1 + length xs) (length xs)
+longer true x xs = omega arith
+longer false x xs = refl
+
+count_mapped : (name : List ℕ) (ts : List WrittenKind) → times_named name (names_of_kinds ts) ≡ count_by (λ (k : WrittenKind). bytes_eq name k.sv) ts
+count_mapped name ts = is_count_by (λ (us : List WrittenKind). times_named name (names_of_kinds us)) (λ (k : WrittenKind). bytes_eq name k.sv) refl (λ u us. longer (bytes_eq name u.sv) u.sv (filter (bytes_eq name) (names_of_kinds us))) ts
+
+-- the tokens of a variable before the extension, and those in it
+times_with : (name : List ℕ) (es : List WrittenExtension) (e : WrittenExtension) → length (filter (bytes_eq name) (token_names (es ++ e ∷ []))) ≡ times_named name (token_names es) + count_by (λ (k : WrittenKind). bytes_eq name k.sv) e.body.tokens
+times_with name es e =
+    let ns = token_names es in let more = names_of_kinds e.body.tokens in
+    ap (λ (xs : List (List ℕ)). length (filter (bytes_eq name) xs)) (token_names-push es e)
+    ∙ ap length (filter-append (bytes_eq name) ns more)
+    ∙ length-append (filter (bytes_eq name) ns) (filter (bytes_eq name) more)
+    ∙ ap (λ (n : ℕ). times_named name ns + n) (count_mapped name e.body.tokens)
+
+-- whether the plan with a further extension has the token
+pub counted_with : (m : Mission) (es : List WrittenExtension) (e : WrittenExtension) (counts : List ℕ) (t : WrittenToken) (v n k : ℕ) → variable_at m.vars t.sv ≡ Some v → Counts m.vars (token_names es) counts → slice_get counts v ≡ Some n → k ≡ count_by (λ (x : WrittenKind). bytes_eq t.sv x.sv) e.body.tokens → nat_lt t.place (n + k) ≡ has_point m (es ++ e ∷ []) (End t)
+counted_with m es e counts t v n k h c g s =
+    let known = sym (any_map t.sv m.vars) ∙ (found_at (λ (x : Var). x.name) t.sv m.vars v h).among in
+    let before : n ≡ times_named t.sv (token_names es) = cc (g, c t.sv v h) in
+    let same : n + k ≡ length (filter (bytes_eq t.sv) (token_names (es ++ e ∷ []))) = omega (arith, before, s, times_with t.sv es e) in
+    ap (nat_lt t.place) same ∙ sym (ap (λ b. not b || nat_lt t.place (length (filter (bytes_eq t.sv) (token_names (es ++ e ∷ []))))) known)
+
+-- a place before a count and more, or behind it
+pub lt_front : (p n k : ℕ) → p < n → nat_lt p n ≡ nat_lt p (n + k)
+lt_front p n k h = lt-ltb p n h ∙ sym (lt-ltb p (n + k) (omega (arith, h)))
+
+pub lt_behind : (p n k : ℕ) → n ≤ p → nat_lt (p - n) k ≡ nat_lt p (n + k)
+lt_behind p n k h =
+    elim (cases_lt (p - n) k) [
+      | inl lt ↦ lt-ltb (p - n) k lt ∙ sym (lt-ltb p (n + k) (omega (arith, h, lt)))
+      | inr ge ↦ le-ltb (p - n) k ge ∙ sym (le-ltb p (n + k) (omega (arith, h, ge)))
+    ]

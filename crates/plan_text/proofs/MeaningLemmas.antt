@@ -38,13 +38,13 @@ name_among (n ∷ names) name (suc i) h = ap (λ b. bytes_eq name n || b) (name_
   or_true true = refl
   or_true false = refl
 
-known_name : (names : List (List ℕ)) (name : List ℕ) (i : ℕ) → IsNumberOf names name i → unknown_in names name ≡ []
+pub known_name : (names : List (List ℕ)) (name : List ℕ) (i : ℕ) → IsNumberOf names name i → unknown_in names name ≡ []
 known_name names name i h = ap (λ b. cond b [] (name ∷ [])) (name_among names name i h.here)
 
 token_known : (m : Mission) (w : WrittenToken) (t : TokenRef) → TokenMeans m w t → unknown_in_token m w ≡ []
 token_known m w t h = known_name (names_of m) w.sv t.sv.0 h.sv
 
-point_known : (m : Mission) (es : List Extension) (w : WrittenPoint) (p : ℕ) → PointMeans m es w p → unknown_in_point m w ≡ []
+pub point_known : (m : Mission) (es : List Extension) (w : WrittenPoint) (p : ℕ) → PointMeans m es w p → unknown_in_point m w ≡ []
 point_known m es Origin p h = refl
 point_known m es (Horizon k) p h = refl
 point_known m es (End t) p h = known_name (names_of m) t.sv h.0 h.1
@@ -79,7 +79,7 @@ zip_known P f k [] (y ∷ ys) h = absurd h
 zip_known P f k (x ∷ xs) [] h = absurd h
 zip_known P f k (x ∷ xs) (y ∷ ys) h = both_known _ _ (k x y h.0) (zip_known P f k xs ys h.1)
 
-extension_known : (m : Mission) (es : List Extension) (w : WrittenExtension) (e : Extension) → ExtensionMeans m es w e → unknown_in_body m w.body ≡ []
+pub extension_known : (m : Mission) (es : List Extension) (w : WrittenExtension) (e : Extension) → ExtensionMeans m es w e → unknown_in_body m w.body ≡ []
 extension_known m es w e h =
     let times = zip_known (TimeMeans m es) (unknown_in_time m) (time_known m es) w.body.fixed e.fixed h.fixed in
     let kinds = zip_known (KindMeans m) (unknown_in_kind m) (kind_known m) w.body.tokens e.tokens h.tokens in
@@ -95,7 +95,7 @@ plan_known m es (w ∷ ws) (f ∷ fs) h = both_known _ _ (extension_known m es w
 
 -- One meaning.
 
-number_one : (names : List (List ℕ)) (name : List ℕ) (i j : ℕ) → IsNumberOf names name i → IsNumberOf names name j → i ≡ j
+pub number_one : (names : List (List ℕ)) (name : List ℕ) (i j : ℕ) → IsNumberOf names name i → IsNumberOf names name j → i ≡ j
 number_one names name i j h k = omega (arith, h.first j k.here, k.first i h.here)
 
 token_one : (m : Mission) (w : WrittenToken) (t u : TokenRef) → TokenMeans m w t → TokenMeans m w u → t ≡ u
@@ -120,7 +120,7 @@ kind_one m w a b h k =
     same : (a b : Kind) → a.sv.0 ≡ b.sv.0 → a.value.0 ≡ b.value.0 → a ≡ b
     same a b s v = ap (λ i. make i a.value.0) s ∙ ap (make b.sv.0) v
 
-point_one : (m : Mission) (es : List Extension) (w : WrittenPoint) (p q : ℕ) → PointMeans m es w p → PointMeans m es w q → p ≡ q
+pub point_one : (m : Mission) (es : List Extension) (w : WrittenPoint) (p q : ℕ) → PointMeans m es w p → PointMeans m es w q → p ≡ q
 point_one m es Origin p q h k = h ∙ sym k
 point_one m es (Horizon i) p q h k = h ∙ sym k
 point_one m es (End t) p q h k = h.2 ∙ ap (λ (v : ℕ). place_of (ending v t.place) (points_of es)) (number_one (names_of m) t.sv h.0 k.0 h.1 k.1) ∙ sym k.2
@@ -149,7 +149,7 @@ zip_one P o (x ∷ xs) [] zs h k = absurd h
 zip_one P o (x ∷ xs) (y ∷ ys) [] h k = absurd k
 zip_one P o (x ∷ xs) (y ∷ ys) (z ∷ zs) h k = ap (λ v. v ∷ ys) (o x y z h.0 k.0) ∙ ap (λ vs. z ∷ vs) (zip_one P o xs ys zs h.1 k.1)
 
-extension_one : (m : Mission) (es : List Extension) (w : WrittenExtension) (e f : Extension) → ExtensionMeans m es w e → ExtensionMeans m es w f → e ≡ f
+pub extension_one : (m : Mission) (es : List Extension) (w : WrittenExtension) (e f : Extension) → ExtensionMeans m es w e → ExtensionMeans m es w f → e ≡ f
 extension_one m es w e f h k =
     same e f (h.base ∙ sym k.base) (h.since ∙ sym k.since) (zip_one (TimeMeans m es) (time_one m es) w.body.fixed e.fixed f.fixed h.fixed k.fixed) (zip_one (KindMeans m) (kind_one m) w.body.tokens e.tokens f.tokens h.tokens k.tokens)
     (zip_one (SupportMeans m) (support_one m) w.body.supports e.supports f.supports h.supports k.supports) (zip_one (TokenMeans m) (token_one m) w.body.goals e.goals f.goals h.goals k.goals)

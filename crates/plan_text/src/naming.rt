@@ -38,7 +38,7 @@ fn number_of(place: usize) -> Result<u32, Memory>
 }
 
 /// The variable of this name.
-fn sv_of(alloc: Global, mission: &Mission, name: &Name) -> Result<SvId, Refusal>
+pub fn sv_of(alloc: Global, mission: &Mission, name: &Name) -> Result<SvId, Refusal>
     ensures { Resolves result (unknown_in (names_of mission.now) name.now) (λ sv. IsNumberOf (names_of mission.now) name.now sv.0) }
 {
     match variable_at(mission.vars.as_slice(), name) {
@@ -81,7 +81,7 @@ fn token_of(alloc: Global, mission: &Mission, written: &WrittenToken) -> Result<
 }
 
 /// The point of a plan by its written name.
-fn point_of(
+pub fn point_of(
     alloc: Global,
     mission: &Mission,
     index: &PlanIndex,

@@ -1,6 +1,6 @@
 ghost use Rattle.std.specs.Prelude.{◌≡◌, pos, length, codes, IfOk};
-ghost use Rattle.hs_texts.specs.Languages.{word_says};
-ghost use Rattle.text_laws.specs.Parsers.{next, one, is_word, many, number};
+ghost use Rattle.hs_texts.specs.Languages.{word_says, symbol_says};
+ghost use Rattle.text_laws.specs.Parsers.{next, one, is_word, is_sign, many, number};
 ghost use Rattle.text_laws.specs.MissionReading.{name_at};
 ghost use Rattle.plan_text.specs.PlanReading.{count_at, exactly_at, one_more_at, token_at, horizon_point_at, end_point_at, point_at, new_token_at, support_at};
 ghost use Rattle.plan_text.specs.Answers.{Gives, Keeps};
@@ -65,6 +65,20 @@ impl<'a> PlanReader<'a> {
         ensures { Gives result self.new (one (word_says word.now) self.old) }
     {
         Ok(self.pieces.keyword(word)?)
+    }
+
+    /// Whether the next piece is this symbol.
+    pub fn is_at_symbol(&self, symbol: u8) -> bool
+        ensures { result ≡ is_sign symbol (next self.now) }
+    {
+        self.pieces.is_at_symbol(symbol)
+    }
+
+    /// Reads this symbol.
+    pub fn symbol(&mut self, symbol: u8) -> Result<(), Stop>
+        ensures { Gives result self.new (one (symbol_says symbol) self.old) }
+    {
+        Ok(self.pieces.symbol(symbol)?)
     }
 
     /// Reads a number.

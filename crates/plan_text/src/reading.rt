@@ -13,8 +13,9 @@ use hs_base::{List, Mission};
 use hs_texts::{Refusal, WrittenExtension};
 use std::alloc::Global;
 
-/// The place of the piece before the last `left` of so many pieces.
-fn place_before(pieces: &Pieces, count: usize, left: usize) -> u32
+/// The place of the piece before the last `left` of so many pieces, or the text's length where none
+/// is left.
+pub fn place_before(pieces: &Pieces, count: usize, left: usize) -> u32
     requires { (left ≤ count) × (count < 2 ^ 32) }
     ensures { result ≡ place_in (length pieces.now.bytes) (map (placed pieces.now.bytes) pieces.now.pieces) (count - left) }
 {

@@ -1,10 +1,12 @@
-ghost use Rattle.std.specs.Prelude.{◌≡◌, ℕ, List, ◌∷◌, ◌++◌, ◌+◌, [], OnOk, IfOk, slice_get};
+ghost use Rattle.std.specs.Prelude.{◌≡◌, ℕ, List, ◌∷◌, ◌++◌, ◌+◌, [], OnOk, IfOk, slice_get, count_by};
+ghost use Rattle.std.specs.Str.{bytes_eq};
 ghost use Rattle.hs_texts.specs.PlanGrammar.{has_point, may_be_fixed as may_be_fixed_spec};
+ghost use Rattle.hs_texts.specs.declared.written.WrittenExtension.{WrittenExtension as WrittenExtensionSpec};
 ghost use Rattle.hs_texts.specs.declared.written.WrittenPoint.TheVariants.{End, Horizon};
 ghost use Rattle.plan_text.specs.SoFar.{Counts, variable_at as variable_at_spec, names_of_kinds};
 
 use hs_base::{List, Memory, Mission, Name, Var};
-use hs_texts::{WrittenExtension, WrittenKind, WrittenPoint, WrittenToken};
+use hs_texts::{WrittenBody, WrittenExtension, WrittenKind, WrittenPoint, WrittenToken};
 use std::alloc::Global;
 use std::marker::Model;
 
@@ -40,6 +42,13 @@ fn count_at(counts: &[usize], v: usize) -> Option<usize>
     ensures { result ≡ slice_get counts.now v }
 {
     counts.get(v).copied()
+}
+
+/// How many of the tokens are of the variable of this name.
+fn count_named(tokens: &[WrittenKind], name: &Name) -> usize
+    ensures { result ≡ count_by (λ token. bytes_eq name.now token.sv) tokens.now }
+{
+    tokens.iter().filter(|token| *name == token.sv).count()
 }
 
 /// Counts a token of the variable of this name.
@@ -142,6 +151,36 @@ impl<'a> WrittenPlan<'a> {
             WrittenPoint::Origin => true,
             WrittenPoint::Horizon(k) => self.has_horizon(*k),
             WrittenPoint::End(token) => self.has_token(token),
+        }
+    }
+
+    /// Whether the plan with these tokens in a further extension has the token.
+    fn has_token_with(&self, tokens: &[WrittenKind], token: &WrittenToken) -> bool
+        ensures { (e : WrittenExtensionSpec) → e.body.tokens ≡ tokens.now
+            → result ≡ has_point self.now.mission (self.now.extensions ++ e ∷ []) (End token.now) }
+    {
+        let Some(v) = variable_at(self.mission.vars.as_slice(), &token.sv) else {
+            return true;
+        };
+        match count_at(&self.counts, v) {
+            Some(count) => {
+                let place = token.place as usize;
+                place < count || place - count < count_named(tokens, &token.sv)
+            }
+            None => false,
+        }
+    }
+
+    /// Whether the plan has the point where an extension with this body is added to it; one of an
+    /// unknown variable is let pass.
+    pub fn has_with(&self, body: &WrittenBody, point: &WrittenPoint) -> bool
+        ensures { (e : WrittenExtensionSpec) → e.body ≡ body.now
+            → result ≡ has_point self.now.mission (self.now.extensions ++ e ∷ []) point.now }
+    {
+        match point {
+            WrittenPoint::Origin => true,
+            WrittenPoint::Horizon(k) => 1 <= *k && *k as usize - 1 <= self.extensions.len(),
+            WrittenPoint::End(token) => self.has_token_with(body.tokens.as_slice(), token),
         }
     }
 
