@@ -3,7 +3,7 @@ ghost use Rattle.std.specs.Prelude.{◌≡◌, IfOk};
 use hs_base::{Bound, LAST, PointId};
 use std::alloc::Global;
 use std::test::Fail;
-use stn_distance::{Broken, Dist, close, solve};
+use stn_distance::{Broken, Dist, Why, close, path, solve};
 
 /// The bound between two points, by their numbers.
 macro_rules! bound {
@@ -41,6 +41,25 @@ fn has_cycle(alloc: Global) -> bool {
 #[test]
 fn finds_a_cycle(rt: HostRuntime) -> Result<(), Fail> {
     assert!(rt; has_cycle(rt.alloc()));
+    Ok(())
+}
+
+/// Whether no chain forces point 1, which stands 4 after Z, to stand at most 3 after it.
+fn is_free(alloc: Global) -> bool {
+    let bounds = [bound!(0, 1, 4), bound!(1, 0, -4)];
+    // the bounds have a schedule
+    if solve(alloc, 2, &bounds).is_err() {
+        return false;
+    }
+    match path(alloc, 2, &bounds, bound!(0, 1, 3)) {
+        Ok(Why::Free(times)) => times.as_slice() == [0, 4].as_slice(),
+        _ => false,
+    }
+}
+
+#[test]
+fn finds_a_schedule_that_breaks_a_bound(rt: HostRuntime) -> Result<(), Fail> {
+    assert!(rt; is_free(rt.alloc()));
     Ok(())
 }
 

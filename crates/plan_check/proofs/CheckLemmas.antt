@@ -1,12 +1,15 @@
 -- Plans whose rules hold, and the schedules of their bounds.
 use Rattle.std.proofs.Common.{◌≡◌, ◌≢◌, ℕ, ◌<◌, List, [], ◌++◌, length, get_or, refl, sym, subst, arith}
+use Rattle.std.proofs.lemmas.List.Elements.{All-contains, All-from_recursion, All-weaker}
 use Rattle.std.proofs.lemmas.Option.{slice_get-get_or}
+use Rattle.std.specs.Prelude.{All, Contains, Err, IfOk, Ok, Result}
 use Rattle.std.specs.List.{AllByRecursion}
 use Rattle.hs_base.specs.declared.net.Bound.{Bound}
 use Rattle.hs_base.specs.declared.mission.Mission.{Mission}
 use Rattle.hs_base.specs.declared.plan.Extension.{Extension}
 use Rattle.hs_base.specs.declared.fault.Fault.{Fault}
 use Rattle.hs_base.specs.declared.fault.Fault.TheVariants.{Base, Limit as OverLimit, Order, Fixed, WrongSupport, Unsupported, Goal as NoGoal, Cycle, Memory as NoMemoryLeft}
+use Rattle.hs_base.specs.Schedule.{IsBelow}
 use Rattle.hs_base.specs.Walks.{EachAfter}
 use Rattle.hs_base.specs.Points.{count}
 use Rattle.hs_base.specs.Bounds.{bounds_of, new_bounds}
@@ -17,7 +20,11 @@ use Rattle.base_laws.proofs.ListLemmas.{each_at, each_split, join_after-push}
 use Rattle.plan_laws.specs.Fit.{IsFit}
 use Rattle.plan_laws.proofs.FitLemmas.{bounds_fit}
 use Rattle.plan_laws.proofs.FaultLemmas.{no_cycle}
+use Rattle.stn_distance.specs.declared.why.Why.{Why}
+use Rattle.stn_distance.specs.declared.why.Why.TheVariants.{Chain, Free}
+use Rattle.stn_distance.specs.Chains.{IsWhy}
 use Rattle.stn_distance.specs.Ranges.{IsInRange}
+use Rattle.plan_check.specs.Reasons.{IfChain}
 use Rattle.plan_check.specs.Scheduling.{IsCycleFault}
 
 -- the bounds are fit for a search
@@ -25,6 +32,18 @@ pub bound_in_range : (m : Mission) (es : List Extension) (bs : List Bound) (poin
 bound_in_range m es bs points k d h rules is size below =
     let fit : IsFit (count es) (get_or bs k d) = each_at (IsFit (count es)) bs k (get_or bs k d) (subst (λ (l : List Bound). AllByRecursion (IsFit (count es)) l) (sym is) (bounds_fit m es h rules)) (slice_get-get_or bs k d below) in
     record { from_below = omega (arith, fit.from, size); to_below = omega (arith, fit.to, size); low = fit.least; high = fit.most }
+
+-- the points of its bounds are the plan's
+pub chain_below : (m : Mission) (es : List Extension) (chain : List Bound) → IsMission m → EachAfter (KeepsRules m) [] es → All (Contains (bounds_of m es)) chain → All (IsBelow (count es)) chain
+chain_below m es chain h rules given =
+    let all : All (IsFit (count es)) (bounds_of m es) = All-from_recursion (IsFit (count es)) (bounds_of m es) (bounds_fit m es h rules) in
+    All-weaker (Contains (bounds_of m es)) (IsBelow (count es)) (λ b has. (let fit = All-contains (IsFit (count es)) (bounds_of m es) b all has in (fit.from, fit.to))) chain given
+
+-- so are those of a chain, where one is told
+pub why_below : {E : Type 0} (m : Mission) (es : List Extension) (b : Bound) (r : Result Why E) → IsMission m → EachAfter (KeepsRules m) [] es → IfOk r (IsWhy (count es) (bounds_of m es) b) → IfOk r (λ why. IfChain why (All (IsBelow (count es))))
+why_below m es b (Ok (Chain chain)) h rules is = chain_below m es chain h rules is.given
+why_below m es b (Ok (Free times)) h rules is = tt
+why_below m es b (Err e) h rules is = tt
 
 -- the bounds of a plan with one more extension
 pub bounds-push : (m : Mission) (es : List Extension) (e : Extension) → bounds_of m (joined es e) ≡ bounds_of m es ++ new_bounds m es e

@@ -1,4 +1,5 @@
 pub mod Planned
+pub mod Reasons
 pub mod Seen
 pub mod Lines
 pub mod Standing

@@ -12,6 +12,7 @@ mod laws;
 mod limits;
 mod needs;
 mod order;
+mod reasons;
 mod rules;
 mod schedule;
 mod services;
@@ -26,4 +27,5 @@ pub use filter::{AllPlans, Filter};
 pub use laws::{
     schedules_of_a_checked_plan_make_legal_timelines, schedules_of_a_checked_plan_restrict,
 };
+pub use reasons::reason;
 pub use snapshot::Snapshot;

@@ -4,7 +4,7 @@ use Rattle.std.specs.List.{AllByRecursion}
 use Rattle.std.proofs.lemmas.Int.{ints}
 use Rattle.std.proofs.lemmas.Grind.{reverse_onto}
 use Rattle.std.proofs.lemmas.List.{length-replicate, get_or-replicate, get_or_default}
-use Rattle.std.proofs.lemmas.List.Elements.{All-from_recursion, recursion_from_All, All-contains, Contains-get_or}
+use Rattle.std.proofs.lemmas.List.Elements.{All-from_recursion, recursion_from_All, All-contains, All-weaker, Contains-get_or}
 use Rattle.std.proofs.lemmas.List.Sorted.{All-permutation, IsPermutation-reverse}
 use lib.Signed.{clash_ℤ}
 use Rattle.std.proofs.lemmas.List.Sums.{sum_by-set}
@@ -12,7 +12,7 @@ use Rattle.std.proofs.lemmas.Bool.{cases_eq, cases_lt, eq-eqb, ne_eqb}
 use Rattle.hs_base.specs.declared.net.Bound.{Bound}
 use Rattle.hs_base.specs.Schedule.{Schedule, time_of, Holds, MeetsList, HasNoSchedule}
 use Rattle.hs_base.specs.Cycles.{Leads, total, IsNegativeCycle}
-use Rattle.stn_distance.specs.Ranges.{IsInRange, IsStart, IsNear}
+use Rattle.stn_distance.specs.Ranges.{IsInRange, IsInSearch, IsStart, IsNear}
 use Rattle.stn_distance.specs.Causes.{LeadsBack, AreCauses, IsRound, RootedAt, no_bound, above, depth, slack, IsAboveFloor, bound_at, IsCause, Explained, place}
 
 -- the ranks after v was lowered
@@ -153,7 +153,8 @@ Leads-push : (p : ℕ) (xs : List Bound) (q : ℕ) (b : Bound) → Leads p xs q 
 Leads-push p [] q b l e = (e ∙ sym l, refl)
 Leads-push p (x ∷ xs) q b l e = (l.0, Leads-push x.to.0 xs q b l.1 e)
 
-total-append : (xs ys : List Bound) → total (xs ++ ys) ≡ total xs +ℤ total ys
+-- the sums of two lists
+pub total-append : (xs ys : List Bound) → total (xs ++ ys) ≡ total xs +ℤ total ys
 total-append [] ys = omega (arith, ints)
 total-append (x ∷ xs) ys = let ih = total-append xs ys in omega (arith, ints)
 
@@ -221,12 +222,13 @@ IsNegativeCycle-from_round count bounds times causes cycle h r =
 
 -- ---- No schedule keeps a negative cycle
 
-telescopes : (t : Schedule) (xs : List Bound) (p q : ℕ) → AllByRecursion (Holds t) xs → Leads p xs q → t q ≤ℤ (t p +ℤ total xs)
+-- along bounds that hold the times differ by no more than their sum
+pub telescopes : (t : Schedule) (xs : List Bound) (p q : ℕ) → AllByRecursion (Holds t) xs → Leads p xs q → t q ≤ℤ (t p +ℤ total xs)
 telescopes t [] p q k l = let e = ap t l in omega (arith, ints)
 telescopes t (x ∷ xs) p q k l =
     let ih = telescopes t xs x.to.0 q k.1 l.1 in let k0 = k.0 in let e : t x.from.0 ≡ t p = ap t l.0 in omega (arith, ints)
 
-Holds-given : (t : Schedule) (bounds : List Bound) → AllByRecursion (Holds t) bounds → (xs : List Bound) → AllByRecursion (Contains bounds) xs → AllByRecursion (Holds t) xs
+pub Holds-given : (t : Schedule) (bounds : List Bound) → AllByRecursion (Holds t) bounds → (xs : List Bound) → AllByRecursion (Contains bounds) xs → AllByRecursion (Holds t) xs
 Holds-given t bounds k [] g = tt
 Holds-given t bounds k (x ∷ xs) g = (All-contains (Holds t) bounds x (All-from_recursion (Holds t) bounds k) g.0, Holds-given t bounds k xs g.1)
 
@@ -242,14 +244,14 @@ HasNoSchedule-from_cycle bounds cycle n = record {
 
 -- ---- A point whose causes lead to a root is not low
 
-length_total : (count : ℕ) (bounds : List Bound) → All (IsInRange count) bounds → (xs : List Bound) → AllByRecursion (Contains bounds) xs
-    → neg_ℤ (pos (length xs * 1000000000)) ≤ℤ total xs
+length_total : (count : ℕ) (bounds : List Bound) → All (IsInSearch count) bounds → (xs : List Bound) → AllByRecursion (Contains bounds) xs
+    → neg_ℤ (pos (length xs * 1000000001)) ≤ℤ total xs
 length_total count bounds r [] g = omega (arith, ints)
 length_total count bounds r (x ∷ xs) g =
-    let ih = length_total count bounds r xs g.1 in let e = All-contains (IsInRange count) bounds x r g.0 in omega (arith, ints)
+    let ih = length_total count bounds r xs g.1 in let e = All-contains (IsInSearch count) bounds x r g.0 in omega (arith, ints)
 
 pub not_low : (count : ℕ) (bounds : List Bound) (times : List ℤ) (causes : List ℕ) (start : ℕ)
-    → Explained count bounds times causes → All (IsInRange count) bounds → RootedAt count bounds causes start → neg_ℤ (pos (depth count)) ≤ℤ time_of times start
+    → Explained count bounds times causes → All (IsInSearch count) bounds → RootedAt count bounds causes start → neg_ℤ (pos (depth count)) ≤ℤ time_of times start
 not_low count bounds times causes start h r t =
     let l = length_total count bounds r t.path (Given-from_causes count bounds causes t.path t.given) in
     let zero_root = h.uncaused t.root t.root_in t.uncaused in
@@ -287,7 +289,7 @@ IsStart-zero count =
 
 -- times that keep the bounds are a schedule, once they are moved to stand at 0 at the origin
 pub MeetsList-moved : (count : ℕ) (bounds : List Bound) (times new : List ℤ)
-    → 1 ≤ count → length times ≡ count → length new ≡ length times → All (IsInRange count) bounds → All (Holds (time_of times)) bounds
+    → 1 ≤ count → length times ≡ count → length new ≡ length times → All (IsInSearch count) bounds → All (Holds (time_of times)) bounds
     → ((v : ℕ) → v < length times → time_of new v ≡ time_of times v -ℤ time_of times 0) → MeetsList count bounds new
 MeetsList-moved count bounds times new some len same range keeps moved = record {
   size = same ∙ len;
@@ -317,3 +319,7 @@ IsNear-moved count times new some few len same floor moved =
       low = λ v l. (let m = moved v (omega arith) in let w = floor v l in let w0 = w.0 in let w1 = w.1 in omega (arith, ints));
       high = λ v l. (let m = moved v (omega arith) in let w = floor v l in let w0 = w.0 in let w1 = w.1 in omega (arith, ints));
     }
+
+-- a bound in the range of bounds is in that of a search
+pub IsInSearch-all : (n : ℕ) (bounds : List Bound) → All (IsInRange n) bounds → All (IsInSearch n) bounds
+IsInSearch-all n bounds range = All-weaker (IsInRange n) (IsInSearch n) (λ b r. record { from_below = r.from_below; to_below = r.to_below; low = (let l = r.low in omega (arith, ints)); high = r.high }) bounds range

@@ -38,7 +38,7 @@ pub record Explained (count : ℕ) (bounds : List Bound) (times : List ℤ) (cau
 
 -- how far below 0 a way that meets no point twice can take a time
 abbrev pub depth : ℕ → ℕ
-depth count = 4000000000000 + (count - 1) * 1000000000
+depth count = 4000000000000 + (count - 1) * 1000000001
 
 -- no time is lower than that, nor higher than where a search may start
 abbrev pub IsAboveFloor : ℕ → List ℤ → Type 0

@@ -1,5 +1,5 @@
 -- The ranges of points, weights and times.
-use Rattle.std.specs.Prelude.{◌≡◌, ℕ, ◌<◌, List, length, ℤ, pos, neg_ℤ, ◌≤ℤ◌}
+use Rattle.std.specs.Prelude.{◌≡◌, ℕ, ◌<◌, List, length, ℤ, pos, neg_ℤ, ◌-ℤ◌, ◌≤ℤ◌}
 use Rattle.hs_base.specs.declared.limits.TheConstants.{LAST}
 use Rattle.hs_base.specs.declared.net.Bound.{Bound}
 use Rattle.hs_base.specs.declared.plan.Time.{Time}
@@ -10,6 +10,13 @@ pub record IsInRange (n : ℕ) (b : Bound) : Type 0 where
   pub from_below : b.from.0 < n
   pub to_below : b.to.0 < n
   pub low : neg_ℤ LAST ≤ℤ b.most
+  pub high : b.most ≤ℤ LAST
+
+-- the same, but that the weight may be less by one, as that of a bound that is broken where another holds
+pub record IsInSearch (n : ℕ) (b : Bound) : Type 0 where
+  pub from_below : b.from.0 < n
+  pub to_below : b.to.0 < n
+  pub low : (neg_ℤ LAST -ℤ pos 1) ≤ℤ b.most
   pub high : b.most ≤ℤ LAST
 
 -- every schedule has each of the first n points within 0 to LAST

@@ -1,11 +1,14 @@
 ghost use Rattle.std.specs.Prelude.{◌≡◌, ◌<◌, ◌≤◌, All};
-ghost use Rattle.stn_distance.specs.Ranges.{IsInRange};
+ghost use Rattle.stn_distance.specs.Ranges.{IsInSearch};
 ghost use Rattle.stn_distance.specs.Causes.{Explained, IsAboveFloor, TurnFinds, place};
 
 use hs_base::{Bound, LAST};
 
 /// How far from 0, in ticks, a search may start.
 pub(crate) const REACH: i64 = 4_000_000_000_000;
+
+/// How far, in ticks, one bound can take a time below another.
+const STEP: i64 = LAST + 1;
 
 /// What a turn over all bounds found.
 pub(crate) enum Lowering {
@@ -35,13 +38,13 @@ pub(crate) fn lower_all(
     causes: &mut [usize],
 ) -> Lowering
     requires few { (1 ≤ count) × (count ≤ 131072) }
-    requires range { All (IsInRange count) bounds.now }
+    requires range { All (IsInSearch count) bounds.now }
     requires explained { Explained count bounds.now times.old causes.old }
     requires floor { IsAboveFloor count times.old }
     ensures explained { Explained count bounds.now times.new causes.new }
     ensures found { TurnFinds count bounds.now times.old times.new result }
 {
-    let floor = -REACH - (count as i64 - 1) * LAST;
+    let floor = -REACH - (count as i64 - 1) * STEP;
     let mut lowered = None;
     for step in 0..bounds.len() {
         let i = place_of(backward, step, bounds.len());

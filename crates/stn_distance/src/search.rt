@@ -1,6 +1,6 @@
 ghost use Rattle.std.specs.Prelude.{◌≡◌, ℕ, ◌<◌, ◌≤◌, ◌-ℤ◌, length, All, IfOk, IfErr};
 ghost use Rattle.hs_base.specs.Schedule.{MeetsList, HasNoSchedule, time_of};
-ghost use Rattle.stn_distance.specs.Ranges.{IsInRange, IsStart, IsNear};
+ghost use Rattle.stn_distance.specs.Ranges.{IsInRange, IsInSearch, IsStart, IsNear};
 ghost use Rattle.stn_distance.specs.Causes.{Explained, IsAboveFloor, TurnSays};
 ghost use Rattle.hs_base.specs.Cycles.{IsNegativeCycle};
 ghost use Rattle.stn_distance.specs.Broken.{IfCycle};
@@ -31,7 +31,7 @@ fn turn_over(
     causes: &mut [usize],
 ) -> Result<Turn, AllocError>
     requires few { (1 ≤ count) × (count ≤ POINTS) }
-    requires range { All (IsInRange count) bounds.now }
+    requires range { All (IsInSearch count) bounds.now }
     requires explained { Explained count bounds.now times.old causes.old }
     requires floor { IsAboveFloor count times.old }
     ensures { IfOk result (λ t. TurnSays count bounds.now times.old times.new causes.new t) }
@@ -72,7 +72,7 @@ pub fn solve_from(
     start: Vec<i64>,
 ) -> Result<List<i64>, Broken>
     requires few { (1 ≤ n) × (n ≤ POINTS) }
-    requires range { All (IsInRange n) bounds.now }
+    requires range { All (IsInSearch n) bounds.now }
     requires start { IsStart n start.items }
     ensures schedule { IfOk result (MeetsList n bounds.now) }
     ensures near { IfOk result (IsNear n) }

@@ -1,5 +1,5 @@
 ghost use Rattle.std.specs.Prelude.{◌≡◌, ◌<◌, ◌≤◌, length, All, IfOk, IfSome, IfNone, reverse, drop};
-ghost use Rattle.stn_distance.specs.Ranges.{IsInRange};
+ghost use Rattle.stn_distance.specs.Ranges.{IsInSearch};
 ghost use Rattle.stn_distance.specs.Causes.{AreEnds, IsRound, RootedAt};
 
 use hs_base::Bound;
@@ -22,7 +22,7 @@ pub(crate) fn trace(
     causes: &[usize],
     start: usize,
 ) -> Result<Option<Vec<Bound>>, AllocError>
-    requires range { All (IsInRange count) bounds.now }
+    requires range { All (IsInSearch count) bounds.now }
     requires ends { AreEnds count bounds.now causes.now }
     requires start { start < count }
     ensures round { IfOk result (λ o. IfSome o (λ c. IsRound count bounds.now causes.now c.items)) }
