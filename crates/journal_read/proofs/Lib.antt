@@ -1,0 +1,5 @@
+pub mod LogReadLemmas
+pub mod LogSizeLemmas
+pub mod EntryLemmas
+pub mod NotedLemmas
+pub mod LogMeaningLemmas

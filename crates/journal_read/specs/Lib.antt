@@ -1,0 +1,3 @@
+pub mod LogReading
+pub mod LogSpelling
+pub mod NotedLogs
