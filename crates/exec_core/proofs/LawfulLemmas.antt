@@ -32,7 +32,7 @@ abbrev pub seen : Inside → Recorded
 seen d = record { mission = d.mission; history = d.history.items }
 
 module _ (d : Inside) (k : IsKept d) where
-  running_there : (v : Recorded) → seen d ≡ v → phase_of v.history ≡ Running → phase_of d.history.items ≡ Running
+  pub running_there : (v : Recorded) → seen d ≡ v → phase_of v.history ≡ Running → phase_of d.history.items ≡ Running
   running_there v is run = ap (λ (r : Recorded). phase_of r.history) is ∙ run
 
   -- without a flight nothing runs

@@ -5,3 +5,4 @@ pub mod LawfulLemmas
 pub mod PushLemmas
 pub mod HandedLemmas
 pub mod TurnLemmas
+pub mod LineLemmas

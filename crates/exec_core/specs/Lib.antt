@@ -4,3 +4,4 @@ pub mod Next
 pub mod Room
 pub mod Kept
 pub mod Events
+pub mod Own

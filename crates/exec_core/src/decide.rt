@@ -1,6 +1,6 @@
-ghost use Rattle.std.specs.Prelude.{◌≡◌, ◌<◌, None, MatchOption};
+ghost use Rattle.std.specs.Prelude.{◌≡◌, ◌<◌, ◌↔◌, IsTrue, false, None, MatchOption};
 ghost use Rattle.hs_machine.specs.Machine.{TickReply, PointReply, OwnReply, FireReply, ReportReply};
-ghost use Rattle.dispatcher.specs.State.{points, moment, IsOpen};
+ghost use Rattle.dispatcher.specs.State.{points, moment, is_observed, IsOpen};
 ghost use Rattle.exec_core.specs.Replies.{reply_of};
 
 use crate::Reply;
@@ -82,4 +82,13 @@ pub fn decide_report(dispatch: &mut Dispatch, point: PointId) -> Reply
         Ok(()) => Reply::Done,
         Err(bound) => Reply::Failed { bound },
     }
+}
+
+/// Whether the point is open and no device tells it.
+pub fn is_own(dispatch: &Dispatch, point: PointId) -> bool
+    ensures { IsTrue result ↔ (IsOpen dispatch.now point.0 × (is_observed dispatch.now point.0 ≡ false)) }
+{
+    (point.0 as usize) < dispatch.points()
+        && dispatch.time(point).is_none()
+        && !dispatch.is_observed(point)
 }

@@ -14,4 +14,6 @@ pub enum Event {
     Broken(SvId),
     /// A plan is offered.
     Handover(Offer),
+    /// The timeline of a variable is to be shown.
+    Line(SvId),
 }

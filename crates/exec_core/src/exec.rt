@@ -1,18 +1,21 @@
-ghost use Rattle.std.specs.Prelude.{◌≡◌, ◌<◌, ◌≤◌, ◌+◌, ◌^◌, true, [], pos, length, vec_len, vec_capacity, None, Some, IfOk, OnOk, OnErr, MatchOption};
+ghost use Rattle.std.specs.Prelude.{◌≡◌, ◌↔◌, ◌<◌, ◌≤◌, ◌+◌, ◌^◌, IsTrue, true, [], pos, length, vec_len, vec_capacity, None, Some, IfOk, OnOk, OnErr, MatchOption};
 ghost use Rattle.hs_base.specs.Missions.{IsMission};
 ghost use Rattle.hs_machine.specs.State.{now_of, plan_of, phase_of, is_failure, executes};
-ghost use Rattle.hs_machine.specs.Machine.{Replies, Turn, tick, fire, report, broken, handover, done};
+ghost use Rattle.hs_machine.specs.Machine.{Replies, Turn, tick, fire, report, broken, handover, line, done};
+ghost use Rattle.exec_core.specs.Own.{IsOwn};
 ghost use Rattle.exec_core.specs.Recorded.{MayRecord, recording};
 ghost use Rattle.exec_core.specs.Replies.{reply_of};
 ghost use Rattle.exec_core.specs.Next.{IsTurnedAway, MayTake, IsTurnedDown};
 
 use crate::Reply;
-use crate::decide::{decide_fire, decide_report, decide_tick};
+use crate::decide::{decide_fire, decide_report, decide_tick, is_own};
 use crate::flight::{Flight, entries_of};
 use crate::next::not_next;
 use horizon_handover::{Handed, Offer};
 use hs_base::{Extension, Memory, Mission, PointId, Same, SvId};
 use hs_machine::{Deed, Entry, Phase};
+use line_view::line_of;
+use plan_check::CheckedPlan;
 use std::alloc::Global;
 use std::marker::Model;
 
@@ -110,6 +113,50 @@ impl Exec {
                 }
             }
             None => Phase::Waiting,
+        }
+    }
+
+    /// The mission.
+    pub fn mission(&self) -> &Mission
+        ensures { result.now ≡ self.now.mission }
+    {
+        &self.mission
+    }
+
+    /// The newest plan, where one was handed over.
+    pub fn plan(&self) -> Option<&CheckedPlan>
+        ensures { MatchOption result (plan_of self.now.history ≡ []) (λ c. (c.now.mission ≡ self.now.mission) × (c.now.plan.extensions ≡ plan_of self.now.history)) }
+    {
+        match &self.live {
+            Some(flight) => Some(&flight.plan),
+            None => None,
+        }
+    }
+
+    /// Whether the point is one of the newest plan that isn't executed yet, and that no device tells.
+    pub fn is_own(&self, point: PointId) -> bool
+        ensures { IsTrue result ↔ IsOwn self.now.mission self.now.history point.0 }
+    {
+        match &self.live {
+            Some(flight) => is_own(&flight.dispatch, point),
+            None => false,
+        }
+    }
+
+    /// Shows the timeline of a variable: its current token, the time, and how far the plan reaches.
+    pub fn line(&self, sv: SvId) -> Reply
+        ensures { Replies self.now.mission self.now.history (line sv.0) (reply_of result) }
+    {
+        match self.refusal() {
+            Some(refusal) => return refusal,
+            None => {}
+        }
+        if sv.0 as usize >= self.mission.vars.len() {
+            return Reply::NoPoint;
+        }
+        match &self.live {
+            Some(flight) => Reply::Line(line_of(&flight.plan, &flight.dispatch, sv)),
+            None => Reply::NoNet,
         }
     }
 

@@ -20,6 +20,7 @@ impl Exec {
             Event::Fire(point) => self.fire(by, *point),
             Event::Report(point) => self.report(by, *point),
             Event::Broken(device) => self.broken(by, *device),
+            Event::Line(sv) => self.line(*sv),
             Event::Handover(_) => unreachable!(),
         }
     }

@@ -1,4 +1,5 @@
 use hs_base::{Bound, PointId};
+use line_view::Line;
 
 /// What the executive answers.
 #[derive(Clone, Copy, Debug, PartialEq, Eq)]
@@ -52,6 +53,8 @@ pub enum Reply {
     NoNet,
     /// The plan was made for another mission.
     OtherMission,
+    /// What is shown of a timeline.
+    Line(Line),
     /// No memory is left.
     Memory,
 }

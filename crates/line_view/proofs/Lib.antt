@@ -1,0 +1,2 @@
+pub mod CurrentLemmas
+pub mod LineLemmas
