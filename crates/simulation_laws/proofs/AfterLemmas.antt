@@ -73,7 +73,7 @@ no_ends : (ts : List TokenRef) → place_of (horizon 0) (map (λ t. ending t.sv.
 no_ends [] = refl
 no_ends (t ∷ ts) = ap suc (no_ends ts)
 
-no_zero : (es : List Extension) → place_of (horizon 0) (points_of es) ≡ count es
+pub no_zero : (es : List Extension) → place_of (horizon 0) (points_of es) ≡ count es
 no_zero = front_induction (λ es. place_of (horizon 0) (points_of es) ≡ count es) refl step
   where
     step : (before : List Extension) (e : Extension) → place_of (horizon 0) (points_of before) ≡ count before → place_of (horizon 0) (points_of (before ++ e ∷ [])) ≡ count (before ++ e ∷ [])

@@ -4,6 +4,7 @@ pub mod BeginLemmas
 pub mod CompleteLemmas
 pub mod EndLemmas
 pub mod ExecuteLemmas
+pub mod FailLemmas
 pub mod FinishLemmas
 pub mod FreshLemmas
 pub mod GoLemmas
@@ -12,6 +13,7 @@ pub mod HandedLemmas
 pub mod HearLemmas
 pub mod HistoryLemmas
 pub mod LineLemmas
+pub mod NextLemmas
 pub mod ObservedLemmas
 pub mod OnePlanLemmas
 pub mod OpenLemmas

@@ -46,7 +46,7 @@ use Rattle.simulation_laws.proofs.HistoryLemmas.{reports-push}
 use Rattle.simulation_laws.proofs.ScriptLemmas.{BegunTo, current_last, script_at, scripts_are, scripts_at}
 
 -- The first of some points that waits.
-waits_first : (at : Times) (xs : List ℕ) (x : ℕ) → slice_get xs (first_waiting at xs) ≡ Some x → at x ≡ None
+pub waits_first : (at : Times) (xs : List ℕ) (x : ℕ) → slice_get xs (first_waiting at xs) ≡ Some x → at x ≡ None
 waits_first at [] x is = absurd (cc)
 waits_first at (y ∷ ys) x is = by_case (at y) refl is (λ rest. waits_first at ys x rest)
   where
@@ -54,7 +54,7 @@ waits_first at (y ∷ ys) x is = by_case (at y) refl is (λ rest. waits_first at
     by_case (Some t) here is old = old is
     by_case None here is old = let same : y ≡ x = cc in ap at (sym same) ∙ here
 
-done_before : (at : Times) (xs : List ℕ) (j x : ℕ) → j < first_waiting at xs → slice_get xs j ≡ Some x → (t : ℤ) × (at x ≡ Some t)
+pub done_before : (at : Times) (xs : List ℕ) (j x : ℕ) → j < first_waiting at xs → slice_get xs j ≡ Some x → (t : ℤ) × (at x ≡ Some t)
 done_before at [] j x less is = absurd (omega (arith, less))
 done_before at (y ∷ ys) zero x less is = by_case (at y) refl less
   where
@@ -67,7 +67,7 @@ done_before at (y ∷ ys) (suc i) x less is = by_case (at y) less (λ rest. done
     by_case None less old = absurd (omega (arith, less))
     by_case (Some t) less old = old (omega (arith, less))
 
-waits_by : (at : Times) (xs : List ℕ) (j x : ℕ) → slice_get xs j ≡ Some x → at x ≡ None → first_waiting at xs ≤ j
+pub waits_by : (at : Times) (xs : List ℕ) (j x : ℕ) → slice_get xs j ≡ Some x → at x ≡ None → first_waiting at xs ≤ j
 waits_by at [] j x is none = omega arith
 waits_by at (y ∷ ys) zero x is none =
     let same : y ≡ x = cc in
@@ -90,7 +90,7 @@ found_is [] i x d is = absurd (cc)
 found_is (y ∷ ys) zero x d is = cc
 found_is (y ∷ ys) (suc i) x d is = found_is ys i x d is
 
-end_there : (es : List Extension) (d i : ℕ) → i < length (timeline_in es d) → slice_get (ends_of es d) i ≡ Some (end_at es d i)
+pub end_there : (es : List Extension) (d i : ℕ) → i < length (timeline_in es d) → slice_get (ends_of es d) i ≡ Some (end_at es d i)
 end_there es d i below =
     let same : 0 + i ≡ i = omega arith in
     map_at (end_at es d) (numbers_from 0 (length (timeline_in es d))) i i (number_at 0 (length (timeline_in es d)) i below ∙ ap (λ (k : ℕ). Some k) same)
@@ -114,10 +114,16 @@ put_other at x y n t free is = elim (cases_Bool (nat_eq y x)) [
   | inr other ↦ rw other is
 ]
 
+pub put_apart : (at : Times) (x y : ℕ) (n : ℤ) → (y ≡ x → ⊥) → put at x n y ≡ at y
+put_apart at x y n apart = elim (cases_Bool (nat_eq y x)) [
+  | inl same ↦ absurd (apart (eqb-true y x same))
+  | inr other ↦ rw other refl
+]
+
 put_here : (at : Times) (x : ℕ) (n : ℤ) → put at x n x ≡ Some n
 put_here at x n = grind arith
 
-executed_stays : (m : Mission) (h : List Entry) (e : Entry) → MayAdd m h e → (y : ℕ) (t : ℤ) → executed h y ≡ Some t → executed (h ++ e ∷ []) y ≡ Some t
+pub executed_stays : (m : Mission) (h : List Entry) (e : Entry) → MayAdd m h e → (y : ℕ) (t : ℤ) → executed h y ≡ Some t → executed (h ++ e ∷ []) y ≡ Some t
 executed_stays m h e adds y t is = by_case (executes e.deed) refl
   where
     by_case : (o : Option PointId) → executes e.deed ≡ o → executed (h ++ e ∷ []) y ≡ Some t

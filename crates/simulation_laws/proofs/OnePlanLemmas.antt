@@ -13,7 +13,7 @@ use Rattle.base_laws.proofs.ListLemmas.{each_both}
 use Rattle.simulation_laws.specs.Planned.{AreFound, AreInTime, AreOnTime, BeginsPlanned, IsFound, IsGivenPlan, IsInTime, IsOfOnePlan, IsOnTime, is_stale, offered, stale_at}
 
 -- a deed that offers nothing hands nothing over, and isn't stale
-hands_none : (x : Deed) → offered x ≡ None → hands_over x ≡ None
+pub hands_none : (x : Deed) → offered x ≡ None → hands_over x ≡ None
 hands_none (Handover e n) none = none
 hands_none Tick none = refl
 hands_none (Fire x) none = refl

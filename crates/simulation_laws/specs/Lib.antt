@@ -2,8 +2,10 @@ pub mod Alike
 pub mod Hearing
 pub mod Reported
 pub mod Standing
+pub mod Shown
 pub mod Ending
 pub mod Attended
 pub mod Planned
 pub mod Simulated
 pub mod Ended
+pub mod Failing

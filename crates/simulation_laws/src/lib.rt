@@ -4,6 +4,7 @@
 
 mod devices;
 mod handovers;
+mod lines;
 mod runs;
 mod scripts;
 mod steps;
@@ -16,9 +17,10 @@ pub use handovers::{
     a_handover_lets_no_further_point_fire, a_plan_made_now_is_not_stale,
     a_search_may_begin_at_a_snapshot,
 };
+pub use lines::{a_line_stays_while_its_end_is_open, only_what_a_line_shows_may_be_fired};
 pub use runs::{
-    a_run_of_one_plan_is_planned_in_time, a_run_that_has_ended_fired_its_horizon_last,
-    a_run_with_its_plans_is_completed,
+    a_run_of_one_plan_is_planned_in_time, a_run_that_failed_names_a_bound_that_its_plan_forces,
+    a_run_that_has_ended_fired_its_horizon_last, a_run_with_its_plans_is_completed,
 };
 pub use scripts::a_runner_finishes_as_its_script_does;
 pub use steps::{

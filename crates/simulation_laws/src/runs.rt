@@ -11,6 +11,7 @@ ghost use Rattle.hs_machine.specs.State.{phase_of, plan_of};
 ghost use Rattle.flight_laws.specs.Flights.{mark_of};
 ghost use Rattle.simulation_laws.specs.Ending.{EndsWith};
 ghost use Rattle.simulation_laws.specs.Planned.{AreFound, AreInTime, AreOnTime, BeginsPlanned, IsFound, IsGivenPlan, IsOfOnePlan, offered, stale_at};
+ghost use Rattle.simulation_laws.specs.Failing.{IsForcedBy};
 ghost use Rattle.simulation_laws.specs.Ended.{End, FindsEachPlan, Heard, IsFailedBy, IsSimRun, RoseAt, completed, takes_all};
 
 /// Where no device failed, no report came late or early, and the search finds a plan wherever one is
@@ -33,4 +34,10 @@ pub fn a_run_of_one_plan_is_planned_in_time()
     ensures in_time { (m : Mission) (h : List Entry) (e : Extension) → IsOfOnePlan h e → AreInTime m h × AreOnTime m h }
     ensures found { (m : Mission) (nodes : ℕ) (given : Option Extension) (h : List Entry) (e : Extension)
         → IsOfOnePlan h e → IsGivenPlan given [] e ⊎ IsFound takes_all m nodes [] e → AreFound takes_all m nodes given h }
+{}
+
+/// A run that failed by a late or an early entry names a bound between two points of its plan that
+/// the plan forces: each of its schedules keeps it, and would keep no lower one.
+pub fn a_run_that_failed_names_a_bound_that_its_plan_forces()
+    ensures { (m : Mission) (h : List Entry) (b : Bound) → Run m h → IsFailedBy h b → IsForcedBy m (plan_of h) b }
 {}
