@@ -1,2 +1,4 @@
 pub mod Runs
 pub mod Passed
+pub mod Sayings
+pub mod Telling

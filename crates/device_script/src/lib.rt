@@ -5,6 +5,9 @@ mod laws;
 mod runner;
 mod told;
 
-pub use laws::the_orders_of_a_runner_are_those_of_the_steps_it_passed;
+pub use laws::{
+    a_clause_is_said_word_by_word, each_token_takes_the_next_clause_or_the_last,
+    the_orders_of_a_runner_are_those_of_the_steps_it_passed,
+};
 pub use runner::{Progress, Runner};
 pub use told::Told;
