@@ -1,1 +1,14 @@
-pub mod SettlingLemmas
+pub mod ToldLemmas
+pub mod TurnedLemmas
+pub mod MoveLemmas
+pub mod PostLemmas
+pub mod DeedLemmas
+pub mod CrewLemmas
+pub mod PolledLemmas
+pub mod LookLemmas
+pub mod LookingLemmas
+pub mod SettleLemmas
+pub mod TickLemmas
+pub mod LaunchLemmas
+pub mod FlightLemmas
+pub mod EndedLemmas

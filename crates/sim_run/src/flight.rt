@@ -1,68 +1,29 @@
-ghost use Rattle.std.specs.Prelude.{◌≡◌, [], ◌+◌, ◌<◌, ◌^◌, length, IfOk, OnOk};
-ghost use Rattle.std.specs.Bool.{OnTrue, OnFalse};
+ghost use Rattle.std.specs.Prelude.{◌≡◌, List, [], IfOk, OnOk, length, map};
+ghost use Rattle.std.specs.Bool.{OnFalse, OnTrue};
+ghost use Rattle.hs_base.specs.declared.plan.Extension.{Extension};
 ghost use Rattle.hs_base.specs.Checked.{Checked};
-ghost use Rattle.hs_machine.specs.declared.history.Phase.TheVariants.{Ended};
-ghost use Rattle.hs_machine.specs.State.{count_at, phase_of};
 ghost use Rattle.hs_machine.specs.Eager.{NoneMayFire};
-ghost use Rattle.hs_machine.specs.Machine.{fire, done, Replies};
-ghost use Rattle.flight_laws.specs.Flights.{HasNoDevices, IsFlight, EndsByFiring, AreStill, mark_of};
-ghost use Rattle.sim_run.specs.Settling.{Flies, IsLaunched, GoesOn, GoesFurther};
+ghost use Rattle.sim_run.specs.Told.{Known, known};
+ghost use Rattle.sim_run.specs.Moves.{GoesFurther, GoesOn, IsGoing, IsOver};
+ghost use Rattle.sim_run.specs.Parts.{HasTicked, IsBegun, IsFlown, IsLate, IsLaunched, IsReady};
 
+use crate::attending::attend_all;
+use crate::polling::{Polled, poll_all};
+use crate::settling::settle;
+use crate::watch::{OWN, Watch};
 use edge_filter::reform;
 use exec_core::{Exec, Reply, prepare};
-use hs_base::{Copies, Memory, PointId};
+use hs_base::{Copies, Memory};
+use hs_port::Device;
 use plan_check::CheckedPlan;
 use std::alloc::Global;
-use token_net::points;
 
-/// The number of the pass that a run's own calls carry.
-const OWN: u32 = 0;
-
-/// Fires a point, where it may be; says whether it was.
-fn fires(exec: &mut Exec, point: PointId, points: u32) -> bool
-    requires { Flies exec.old points }
-    ensures fired { OnTrue result (GoesFurther points exec.old exec.new) }
-    ensures same { OnFalse result (exec.new ≡ exec.old) }
-    ensures unlawful { OnFalse result (Replies exec.old.mission exec.old.history (fire point.0) done → ⊥) }
-{
-    match exec.fire(OWN, point) {
-        Reply::Done => true,
-        _ => false,
-    }
-}
-
-/// Tries each point once, by number; says whether one was fired.
-fn settle_once(exec: &mut Exec, points: u32) -> bool
-    requires { Flies exec.old points }
-    ensures fired { OnTrue result (GoesFurther points exec.old exec.new) }
-    ensures same { OnFalse result (exec.new ≡ exec.old) }
-    ensures still { OnFalse result (AreStill exec.new.mission exec.new.history points) }
-{
-    let mut fired = false;
-    for point in 0..points {
-        if fires(exec, PointId(point), points) {
-            fired = true;
-        }
-    }
-    fired
-}
-
-/// Fires points until none may be fired at this tick.
-fn settle(exec: &mut Exec, points: u32)
-    requires { Flies exec.old points }
-    ensures on { GoesOn points exec.old exec.new }
-    ensures settled { NoneMayFire exec.new.mission exec.new.history }
-{
-    'passes: while settle_once(exec, points) {}
-}
-
-/// Goes on to the next tick; says whether there is one before the run has ended.
-fn ticks(exec: &mut Exec, points: u32) -> bool
-    requires flies { Flies exec.old points }
+/// Goes on to the next tick; says whether the run goes on.
+fn ticks(exec: &mut Exec) -> bool
+    requires going { IsGoing exec.old }
     requires settled { NoneMayFire exec.old.mission exec.old.history }
-    ensures next { OnTrue result (GoesFurther points exec.old exec.new) }
-    ensures same { OnFalse result (exec.new ≡ exec.old) }
-    ensures ended { OnFalse result (phase_of exec.new.history ≡ Ended) }
+    ensures ticked { OnTrue result (HasTicked exec.old exec.new) }
+    ensures late { OnFalse result (IsLate exec.old exec.new) }
 {
     match exec.tick(OWN) {
         Reply::Done => true,
@@ -70,18 +31,46 @@ fn ticks(exec: &mut Exec, points: u32) -> bool
     }
 }
 
-/// Settles and ticks until the run has ended.
-fn go_on(exec: &mut Exec, points: u32)
-    requires { Flies exec.old points }
-    ensures on { GoesOn points exec.old exec.new }
-    ensures ended { phase_of exec.new.history ≡ Ended }
+/// Settles a tick, goes on to the next one, and polls the devices there. Says whether the run goes on.
+fn step<D: Device>(
+    alloc: Global,
+    exec: &mut Exec,
+    devices: &mut [D],
+    watch: &mut Watch,
+) -> Result<bool, Memory>
+    ghost before: { List Known }
+    requires { IsReady exec.old before (map (known D.polls D.faults) devices.old) watch.old }
+    ensures many { length devices.new ≡ length devices.old }
+    ensures goes_on { IfOk result (λ on. OnTrue on (GoesFurther exec.old exec.new × IsReady exec.new before (map (known D.polls D.faults) devices.new) watch.new)) }
+    ensures over { IfOk result (λ on. OnFalse on (GoesOn exec.old exec.new × IsOver before (map (known D.polls D.faults) devices.new) exec.new)) }
 {
-    'ticks: loop {
-        settle(exec, points);
-        if !ticks(exec, points) {
-            return;
-        }
+    if !settle(alloc, exec, devices, watch)? {
+        return Ok(false);
     }
+    if !ticks(exec) {
+        return Ok(false);
+    }
+    match poll_all(exec, devices, watch) {
+        Polled::Quiet => Ok(true),
+        Polled::Reported => attend_all(alloc, exec, devices, watch),
+        Polled::Over => Ok(false),
+    }
+}
+
+/// Goes from tick to tick until the run is over.
+fn go_on<D: Device>(
+    alloc: Global,
+    exec: &mut Exec,
+    devices: &mut [D],
+    watch: &mut Watch,
+) -> Result<(), Memory>
+    ghost before: { List Known }
+    requires { IsReady exec.old before (map (known D.polls D.faults) devices.old) watch.old }
+    ensures many { length devices.new ≡ length devices.old }
+    ensures over { OnOk result (GoesOn exec.old exec.new × IsOver before (map (known D.polls D.faults) devices.new) exec.new) }
+{
+    'ticks: while step(alloc, exec, devices, watch)? {}
+    Ok(())
 }
 
 /// An executive of the plan's mission, which has done nothing.
@@ -96,7 +85,6 @@ fn begin(alloc: Global, plan: &CheckedPlan) -> Result<Exec, Memory>
 fn hand_over(alloc: Global, exec: &mut Exec, plan: CheckedPlan) -> Result<(), Memory>
     requires checked { Checked plan.mission plan.plan.extensions }
     requires one { length plan.plan.extensions ≡ 1 }
-    requires no_devices { HasNoDevices plan.mission }
     requires begun { exec.old ≡ record { mission = plan.mission; history = [] } }
     ensures { OnOk result (IsLaunched plan exec.new) }
 {
@@ -112,7 +100,6 @@ fn hand_over(alloc: Global, exec: &mut Exec, plan: CheckedPlan) -> Result<(), Me
 /// An executive to which the plan was handed over at its beginning.
 fn launch(alloc: Global, plan: CheckedPlan) -> Result<Exec, Memory>
     requires one { length plan.plan.extensions ≡ 1 }
-    requires no_devices { HasNoDevices plan.mission }
     ensures { IfOk result (IsLaunched plan) }
 {
     let mut exec = begin(alloc, &plan)?;
@@ -120,19 +107,34 @@ fn launch(alloc: Global, plan: CheckedPlan) -> Result<Exec, Memory>
     Ok(exec)
 }
 
-/// The run of a checked plan of one extension for a mission without devices. The plan is handed over
-/// at tick 0. At each tick points are fired until none may be; then the time goes on. The run ends
-/// when the horizon's point is fired.
-pub fn fly(alloc: Global, plan: CheckedPlan) -> Result<Exec, Memory>
-    requires one { length plan.plan.extensions ≡ 1 }
-    requires no_devices { HasNoDevices plan.mission }
-    ensures mission { IfOk result (λ exec. exec.mission ≡ plan.mission) }
-    ensures flight { IfOk result (λ exec. IsFlight plan.mission plan.plan.extensions exec.history) }
-    ensures ended { IfOk result (λ exec. EndsByFiring exec.history (mark_of plan.plan.extensions)) }
-    ensures few { IfOk result (λ exec. count_at exec.history + 1 < 2 ^ 32) }
+/// Flies the plan that was handed over, with a device for each variable.
+fn fly_on<D: Device>(alloc: Global, exec: &mut Exec, devices: &mut [D]) -> Result<(), Memory>
+    ghost before: { List Known }
+    requires known { before ≡ map (known D.polls D.faults) devices.old }
+    requires begun { (extension : Extension) × IsBegun exec.old extension }
+    requires many { length devices.old ≡ length exec.old.mission.vars }
+    ensures many { length devices.new ≡ length devices.old }
+    ensures over { OnOk result (GoesOn exec.old exec.new × IsOver before (map (known D.polls D.faults) devices.new) exec.new) }
 {
-    let points = points(plan.plan());
+    let mut watch = Watch::begin(alloc, devices.len())?;
+    if attend_all(alloc, exec, devices, &mut watch)? {
+        go_on(alloc, exec, devices, &mut watch)?;
+    }
+    Ok(())
+}
+
+/// The run of a checked plan of one extension, with a device for each variable of its mission. The
+/// plan is handed over at tick 0. At each tick the devices whose scripts run are polled, and the ends
+/// that they tell are reported; then points are fired until none may be; then the time goes on. The
+/// run ends when the horizon's point is fired, or when a device fails, or its report comes early or
+/// late.
+pub fn fly<D: Device>(alloc: Global, plan: CheckedPlan, devices: &mut [D]) -> Result<Exec, Memory>
+    requires one { length plan.plan.extensions ≡ 1 }
+    requires many { length devices.old ≡ length plan.mission.vars }
+    ensures many { length devices.new ≡ length devices.old }
+    ensures flown { IfOk result (IsFlown plan (map (known D.polls D.faults) devices.old) (map (known D.polls D.faults) devices.new)) }
+{
     let mut exec = launch(alloc, plan)?;
-    go_on(&mut exec, points);
+    fly_on(alloc, &mut exec, devices)?;
     Ok(exec)
 }

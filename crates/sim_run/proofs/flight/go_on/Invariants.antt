@@ -1,9 +1,19 @@
+use Rattle.std.proofs.Common.{◌≡◌, length, map}
+use Rattle.sim_run.specs.Told.{known}
+use Rattle.sim_run.specs.Moves.{GoesOn}
+use Rattle.sim_run.specs.Parts.{IsReady}
 use Rattle.flight_laws.specs.Flights.{steps_left}
-use Rattle.sim_run.specs.Settling.{GoesOn}
 use Rattle.sim_run.proofs.flight.go_on.Given as goal
 
+abbrev pub ghost-step : goal.ghost-step
+ghost-step g a = g.before
+
 abbrev pub invariant-ticks : goal.invariant-ticks
-invariant-ticks l = GoesOn l.points l.initial.exec l.exec
+invariant-ticks g l = record {
+  ready : IsReady l.exec g.before (map (known g.D.Device.polls g.D.Device.faults) l.devices) l.watch;
+  goes_on : GoesOn l.fn.exec l.exec;
+  many : length l.devices ≡ length l.fn.devices;
+}
 
 abbrev pub decreases-ticks : goal.decreases-ticks
-decreases-ticks l = steps_left l.exec.history
+decreases-ticks g l = steps_left l.exec.history
