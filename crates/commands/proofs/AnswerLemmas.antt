@@ -1,5 +1,5 @@
 -- What each command makes of a good input.
-use Rattle.std.proofs.Common.{◌≡◌, ℕ, List, [], length, refl, ap, ◌∙◌, subst, arith, inl, inr}
+use Rattle.std.proofs.Common.{◌≡◌, ℕ, suc, List, [], ◌∷◌, length, refl, sym, ap, ◌∙◌, subst, arith, inl, inr, Option, Some}
 use Rattle.hs_texts.specs.declared.ast.Ast.{Ast}
 use Rattle.hs_base.specs.declared.mission.Mission.{Mission}
 use Rattle.hs_base.specs.declared.plan.Extension.{Extension}
@@ -7,15 +7,18 @@ use Rattle.hs_texts.specs.CanonicalText.{canonical}
 use Rattle.hs_base.specs.Checked.{Checked}
 use Rattle.hs_texts.specs.ClosingText.{checked_line}
 use Rattle.hs_texts.specs.MissionSpelling.{IsMissionRefusal, IsRefusalOf}
-use Rattle.flight_laws.proofs.FlightLemmas.{flight_checked}
+use Rattle.plan_check.specs.Planned.{Planned as Plan}
+use Rattle.simulation_laws.specs.Ended.{Heard}
+use Rattle.sim_run.specs.Runs.{given_of}
 use Rattle.text_laws.proofs.RefusalLemmas.{spelled_one, spelled_or_refused}
 use Rattle.domain_check.proofs.RuleLemmas.{not_meant}
 use Rattle.commands.specs.Inputs.{IsGiven, IsRefused}
 use Rattle.commands.specs.Prints.{IsAccepted, Prints}
 use Rattle.commands.specs.Checks.{IsFaulty, Judges, Checks}
-use Rattle.commands.specs.Sims.{IsPlain, IsFlown, Runs, Sims}
+use Rattle.commands.specs.Runs.{IsSimTold}
+use Rattle.commands.specs.Sims.{HasOneHorizon, Runs, Sims}
 use Rattle.commands.specs.declared.status.Status.{Status}
-use Rattle.commands.specs.declared.status.Status.TheVariants.{Done, Usage, Refused, NoPlan, Budget, ReadFault, WriteFault, NoMemory, PlanRefused}
+use Rattle.commands.specs.declared.status.Status.TheVariants.{Done, Usage, Refused, NoPlan, Budget, PlanFailed, ReadFault, WriteFault, NoMemory, DeviceFault, PlanRefused}
 use Rattle.commands.proofs.GivenLemmas.{given_one, given_or_refused, given_or_alone, behind_or_refused}
 use Rattle.commands.proofs.FrontLemmas.{in_front_or_refused}
 use Rattle.commands.proofs.SoundLemmas.{checked_or_faulty}
@@ -33,7 +36,9 @@ printed bytes text a Refused h p = absurd (accepted_or_refused bytes text a h p)
 printed bytes text a Usage h p = absurd p
 printed bytes text a NoPlan h p = absurd p
 printed bytes text a Budget h p = absurd p
+printed bytes text a PlanFailed h p = absurd p
 printed bytes text a ReadFault h p = absurd p
+printed bytes text a DeviceFault h p = absurd p
 printed bytes text a WriteFault h p = absurd p
 printed bytes text a NoMemory h p = absurd p
 printed bytes text a PlanRefused h p = absurd p
@@ -45,7 +50,9 @@ judged_sound m es Usage text c j = absurd j
 judged_sound m es Refused text c j = absurd j
 judged_sound m es NoPlan text c j = absurd j
 judged_sound m es Budget text c j = absurd j
+judged_sound m es PlanFailed text c j = absurd j
 judged_sound m es ReadFault text c j = absurd j
+judged_sound m es DeviceFault text c j = absurd j
 judged_sound m es WriteFault text c j = absurd j
 judged_sound m es NoMemory text c j = absurd j
 
@@ -63,7 +70,9 @@ judged_faulty m es Usage text breaks j = absurd j
 judged_faulty m es Refused text breaks j = absurd j
 judged_faulty m es NoPlan text breaks j = absurd j
 judged_faulty m es Budget text breaks j = absurd j
+judged_faulty m es PlanFailed text breaks j = absurd j
 judged_faulty m es ReadFault text breaks j = absurd j
+judged_faulty m es DeviceFault text breaks j = absurd j
 judged_faulty m es WriteFault text breaks j = absurd j
 judged_faulty m es NoMemory text breaks j = absurd j
 
@@ -74,47 +83,43 @@ faulted bytes text m es status g breaks (inl j) =
     judged_faulty m es status text breaks (subst (λ (x : Mission). Judges x es status text) e.0 (subst (λ (l : List Extension). Judges j.mission l status text) e.1 j.judges))
 faulted bytes text m es status g breaks (inr r) = absurd (given_or_refused bytes m es r.1.refusal g r.1.why)
 
-run_flown : (m : Mission) (es : List Extension) (status : Status) (text : List ℕ) → IsPlain m → length es ≡ 1 → Checked m es → Runs m es status text → (status ≡ Done) × IsFlown m es text
-run_flown m es Done text p one c r = (refl, r)
-run_flown m es PlanRefused text p one c r = elim r.cause [ inl k ↦ absurd (k.other one) | inr k ↦ absurd (checked_or_faulty m es text c k.1) ]
-run_flown m es Refused text p one c r = absurd (r.0 p)
-run_flown m es Usage text p one c r = absurd r
-run_flown m es NoPlan text p one c r = absurd r
-run_flown m es Budget text p one c r = absurd r
-run_flown m es ReadFault text p one c r = absurd r
-run_flown m es WriteFault text p one c r = absurd r
-run_flown m es NoMemory text p one c r = absurd r
+-- a plan of one extension is that extension
+same_one : (e x : Extension) → e ∷ [] ≡ x ∷ [] → e ≡ x
+same_one e x h = cc
 
--- a plan that was flown is checked
-flown_checked : (m : Mission) (es : List Extension) (text : List ℕ) → length es ≡ 1 → IsFlown m es text → Checked m es
-flown_checked m es text one f = flight_checked m es f.history f.flight (λ (e : es ≡ []). omega (arith, one, ap length e))
+-- a mission is run by the plan that is given
+pub ran_by_plan : (nodes : ℕ) (heard : List Heard) (m : Mission) (es : List Extension) (p : Plan) (status : Status) (text : List ℕ) → HasOneHorizon m → length es ≡ 1 → Checked m es → p.plan.extensions ≡ es → IsSimTold nodes (given_of (Some p)) heard m status text → Runs nodes heard m es status text
+ran_by_plan nodes heard m [] p status text one size checked is t = absurd (let e : 0 ≡ 1 = size in cc)
+ran_by_plan nodes heard m (e ∷ []) p status text one size checked is t =
+    let given : given_of (Some p) ≡ Some e = ap (λ (l : List Extension). given_of (Some (record { mission = p.mission; plan = record { extensions = l } }))) is in
+    inl (inl (record { one_horizon = one; extension = e; one = refl; checked = checked; told = subst (λ (o : Option Extension). IsSimTold nodes o heard m status text) given t }))
+ran_by_plan nodes heard m (e ∷ x ∷ es) p status text one size checked is t = absurd (let more : suc (suc (length es)) ≡ 1 = size in omega (arith, more))
 
-run_faulty : (m : Mission) (es : List Extension) (status : Status) (text : List ℕ) → IsPlain m → length es ≡ 1 → (Checked m es → ⊥) → Runs m es status text → (status ≡ PlanRefused) × IsFaulty m es text
-run_faulty m es Done text p one breaks r = absurd (breaks (flown_checked m es text one r))
-run_faulty m es PlanRefused text p one breaks r = elim r.cause [ inl k ↦ absurd (k.other one) | inr k ↦ (refl, k.1) ]
-run_faulty m es Refused text p one breaks r = absurd (r.0 p)
-run_faulty m es Usage text p one breaks r = absurd r
-run_faulty m es NoPlan text p one breaks r = absurd r
-run_faulty m es Budget text p one breaks r = absurd r
-run_faulty m es ReadFault text p one breaks r = absurd r
-run_faulty m es WriteFault text p one breaks r = absurd r
-run_faulty m es NoMemory text p one breaks r = absurd r
+runs_checked : (nodes : ℕ) (heard : List Heard) (m : Mission) (e : Extension) (status : Status) (text : List ℕ) → HasOneHorizon m → Checked m (e ∷ []) → Runs nodes heard m (e ∷ []) status text → IsSimTold nodes (Some e) heard m status text
+runs_checked nodes heard m e status text one c (inl (inl r)) = subst (λ (x : Extension). IsSimTold nodes (Some x) heard m status text) (sym (same_one e r.extension r.one)) r.told
+runs_checked nodes heard m e status text one c (inl (inr r)) = elim r.cause [ inl k ↦ absurd (k.other refl) | inr k ↦ absurd (checked_or_faulty m (e ∷ []) text c k.1) ]
+runs_checked nodes heard m e status text one c (inr u) = absurd (u.several one)
+
+runs_faulty : (nodes : ℕ) (heard : List Heard) (m : Mission) (es : List Extension) (status : Status) (text : List ℕ) → HasOneHorizon m → length es ≡ 1 → (Checked m es → ⊥) → Runs nodes heard m es status text → (status ≡ PlanRefused) × IsFaulty m es text
+runs_faulty nodes heard m es status text one single breaks (inl (inl r)) = absurd (breaks r.checked)
+runs_faulty nodes heard m es status text one single breaks (inl (inr r)) = elim r.cause [ inl k ↦ absurd (k.other single) | inr k ↦ (r.refused, k.1) ]
+runs_faulty nodes heard m es status text one single breaks (inr u) = absurd (u.several one)
 
 -- what `sim` makes of a mission with a plan for it
-run_comes : (nodes : ℕ) (bytes text : List ℕ) (m : Mission) (es : List Extension) (status : Status) → IsGiven bytes m es → Sims nodes bytes status text → Runs m es status text
-run_comes nodes bytes text m es status g (inl (inl r)) =
+run_comes : (nodes : ℕ) (heard : List Heard) (bytes text : List ℕ) (m : Mission) (es : List Extension) (status : Status) → IsGiven bytes m es → Sims nodes heard bytes status text → Runs nodes heard m es status text
+run_comes nodes heard bytes text m es status g (inl (inl r)) =
     let e = given_one bytes r.mission m r.plan es r.given g in
-    subst (λ (x : Mission). Runs x es status text) e.0 (subst (λ (l : List Extension). Runs r.mission l status text) e.1 r.runs)
-run_comes nodes bytes text m es status g (inl (inr u)) = absurd (given_or_alone bytes m u.mission u.used es g u.front u.ends)
-run_comes nodes bytes text m es status g (inr r) = elim r.1.why [
+    subst (λ (x : Mission). Runs nodes heard x es status text) e.0 (subst (λ (l : List Extension). Runs nodes heard r.mission l status text) e.1 r.runs)
+run_comes nodes heard bytes text m es status g (inl (inr u)) = absurd (given_or_alone bytes m u.mission u.used es g u.front u.ends)
+run_comes nodes heard bytes text m es status g (inr r) = elim r.1.why [
   | inl f ↦ absurd (in_front_or_refused bytes m g.used r.1.refusal g.mission f)
   | inr n ↦ absurd (behind_or_refused bytes m es r.1.refusal g n.behind)
 ]
 
--- a plain mission is flown by its checked plan
-pub flown : (nodes : ℕ) (bytes text : List ℕ) (m : Mission) (es : List Extension) (status : Status) → IsGiven bytes m es → IsPlain m → length es ≡ 1 → Checked m es → Sims nodes bytes status text → (status ≡ Done) × IsFlown m es text
-flown nodes bytes text m es status g p one c s = run_flown m es status text p one c (run_comes nodes bytes text m es status g s)
+-- a mission of one horizon is run by its checked plan
+pub run_by_plan : (nodes : ℕ) (heard : List Heard) (bytes text : List ℕ) (m : Mission) (e : Extension) (status : Status) → IsGiven bytes m (e ∷ []) → HasOneHorizon m → Checked m (e ∷ []) → Sims nodes heard bytes status text → IsSimTold nodes (Some e) heard m status text
+run_by_plan nodes heard bytes text m e status g one c s = runs_checked nodes heard m e status text one c (run_comes nodes heard bytes text m (e ∷ []) status g s)
 
--- a faulty plan for a plain mission is told its fault, and not flown
-pub unflown : (nodes : ℕ) (bytes text : List ℕ) (m : Mission) (es : List Extension) (status : Status) → IsGiven bytes m es → IsPlain m → length es ≡ 1 → (Checked m es → ⊥) → Sims nodes bytes status text → (status ≡ PlanRefused) × IsFaulty m es text
-unflown nodes bytes text m es status g p one breaks s = run_faulty m es status text p one breaks (run_comes nodes bytes text m es status g s)
+-- a faulty plan for one is told its fault, and no run is made
+pub unrun : (nodes : ℕ) (heard : List Heard) (bytes text : List ℕ) (m : Mission) (es : List Extension) (status : Status) → IsGiven bytes m es → HasOneHorizon m → length es ≡ 1 → (Checked m es → ⊥) → Sims nodes heard bytes status text → (status ≡ PlanRefused) × IsFaulty m es text
+unrun nodes heard bytes text m es status g one single breaks s = runs_faulty nodes heard m es status text one single breaks (run_comes nodes heard bytes text m es status g s)

@@ -5,5 +5,6 @@ pub mod WholeLemmas
 pub mod SearchLemmas
 pub mod SoundLemmas
 pub mod FaultLemmas
-pub mod DeviceLemmas
 pub mod AnswerLemmas
+pub mod HeardLemmas
+pub mod EndLemmas

@@ -1,9 +1,9 @@
 -- What is told of the search of a first plan.
-use Rattle.std.proofs.Common.{◌≡◌, ℕ, List, [], refl, sym, subst, inl, inr}
+use Rattle.std.proofs.Common.{◌≡◌, ℕ, List, [], refl, sym, subst, inl, inr, None}
 use Rattle.hs_base.specs.declared.mission.Mission.{Mission}
 use Rattle.hs_base.specs.declared.plan.Extension.{Extension}
 use Rattle.hs_base.specs.Checked.{Checked}
-use Rattle.log_laws.specs.LogText.{log_text}
+use Rattle.simulation_laws.specs.Ended.{Heard}
 use Rattle.search_tree.specs.Tree.{Found, plan, no_plan, budget}
 use Rattle.search_laws.proofs.OneLemmas.{one_plan}
 use Rattle.plan_search.specs.declared.unplanned.Unplanned.{Unplanned}
@@ -12,7 +12,8 @@ use Rattle.plan_search.specs.First.{FindsFirst, IsPlanned, IsUnplanned, outset}
 use Rattle.commands.specs.Inputs.{IsWhole}
 use Rattle.commands.specs.Plans.{Tells}
 use Rattle.commands.specs.Searches.{IsToldOf, Searches}
-use Rattle.commands.specs.Sims.{IsPlain, IsFlown, Sims}
+use Rattle.commands.specs.Runs.{IsSimTold}
+use Rattle.commands.specs.Sims.{HasOneHorizon, Sims}
 use Rattle.commands.specs.Untold.{IsToldWhy}
 use Rattle.commands.specs.declared.status.Status.{Status}
 use Rattle.commands.specs.declared.status.Status.TheVariants.{Done}
@@ -43,13 +44,13 @@ searched What nodes bytes text m found status h f (inl s) =
     told_of_found m nodes [] (What m) found status text f (subst (λ (x : Mission). Searches x nodes [] (What x) status text) same s.searches)
 searched What nodes bytes text m found status h f (inr r) = absurd (whole_or_refused bytes m r.1.refusal h r.1.why)
 
--- a plain mission alone is flown by the plan that is found
-pub flown_alone : (nodes : ℕ) (bytes text : List ℕ) (m : Mission) (found : Found Extension) (status : Status) → IsWhole bytes m → IsPlain m → FindsFirst m nodes found → Sims nodes bytes status text → IsToldOf m (log_text m []) (IsFlown m) found status text
-flown_alone nodes bytes text m found status h p f (inl (inl r)) = absurd (whole_or_given bytes m r.mission r.plan h r.given)
-flown_alone nodes bytes text m found status h p f (inl (inr u)) =
+-- a mission of one horizon alone is run by a plan that is searched for
+pub run_alone : (nodes : ℕ) (heard : List Heard) (bytes text : List ℕ) (m : Mission) (status : Status) → IsWhole bytes m → HasOneHorizon m → Sims nodes heard bytes status text → IsSimTold nodes None heard m status text
+run_alone nodes heard bytes text m status h one (inl (inl r)) = absurd (whole_or_given bytes m r.mission r.plan h r.given)
+run_alone nodes heard bytes text m status h one (inl (inr u)) =
     let same = whole_in_front bytes m u.mission u.used h u.front in
-    elim u.flies [
-      | inl s ↦ told_of_found m nodes (log_text m []) (IsFlown m) found status text f (subst (λ (x : Mission). Searches x nodes (log_text x []) (IsFlown x) status text) (sym same) s.1)
-      | inr o ↦ absurd (o.0 (subst IsPlain same p))
+    elim u.runs [
+      | inl s ↦ subst (λ (x : Mission). IsSimTold nodes None heard x status text) (sym same) s.1
+      | inr o ↦ absurd (o.several (subst HasOneHorizon same one))
     ]
-flown_alone nodes bytes text m found status h p f (inr r) = absurd (whole_or_run_refused bytes m r.1.refusal h r.1.why)
+run_alone nodes heard bytes text m status h one (inr r) = absurd (whole_or_run_refused bytes m r.1.refusal h r.1.why)

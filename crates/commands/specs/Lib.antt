@@ -4,5 +4,6 @@ pub mod Prints
 pub mod Checks
 pub mod Searches
 pub mod Plans
+pub mod Runs
 pub mod Sims
 pub mod Untold

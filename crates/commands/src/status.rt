@@ -14,12 +14,16 @@ pub enum Status {
     NoPlan = 3,
     /// The budget of nodes ended before a plan was found.
     Budget = 4,
+    /// A device's report came outside its window, or none came in it.
+    PlanFailed = 5,
     /// The input couldn't be read.
     ReadFault = 6,
     /// The output couldn't be written.
     WriteFault = 7,
     /// Memory was wanted.
     NoMemory = 8,
+    /// A device failed.
+    DeviceFault = 9,
     /// The plan was refused.
     PlanRefused = 11,
 }

@@ -1,3 +1,4 @@
 pub mod FrontLemmas
 pub mod BuiltLemmas
+pub mod FaultLemmas
 pub mod GoodLemmas

@@ -9,26 +9,27 @@ use Rattle.command_line.specs.Words.{words_of}
 use Rattle.command_line.specs.declared.request.Command.{Command}
 use Rattle.command_line.specs.declared.request.Command.TheVariants.{Print, Plan, Check, Net, Sim, Drill, Fly}
 use Rattle.command_line.specs.declared.request.Request.{Request}
+use Rattle.simulation_laws.specs.Ended.{Heard}
 use Rattle.commands.specs.Statuses.{code_of}
 use Rattle.commands.specs.Prints.{Prints}
 use Rattle.commands.specs.Checks.{Checks}
 use Rattle.commands.specs.Plans.{Plans, Nets}
 use Rattle.commands.specs.Sims.{Sims}
 use Rattle.commands.specs.declared.status.Status.{Status}
-use Rattle.commands.specs.declared.status.Status.TheVariants.{Done, Refused, NoPlan, Budget, PlanRefused, WriteFault}
+use Rattle.commands.specs.declared.status.Status.TheVariants.{Done, Refused, NoPlan, Budget, PlanFailed, DeviceFault, PlanRefused, WriteFault}
 use Rattle.exec_main.specs.Streams.{AppendsFront, Reads}
 
--- what a command makes of an input, with so many nodes for a search
-abbrev pub Makes : Command → ℕ → List ℕ → Status → List ℕ → Type 0
-Makes Print nodes = Prints
-Makes Check nodes = Checks
-Makes Plan nodes = Plans nodes
-Makes Net nodes = Nets nodes
-Makes Sim nodes = Sims nodes
-Makes _ nodes = λ bytes status text. ⊥
+-- what a command makes of an input, with so many nodes for a search, and devices that told this
+abbrev pub Makes : Command → ℕ → List Heard → List ℕ → Status → List ℕ → Type 0
+Makes Print nodes heard = Prints
+Makes Check nodes heard = Checks
+Makes Plan nodes heard = Plans nodes
+Makes Net nodes heard = Nets nodes
+Makes Sim nodes heard = Sims nodes heard
+Makes _ nodes heard = λ bytes status text. ⊥
 
 -- what is made of an input that the words ask for
-abbrev pub Answers : Request → List ℕ → Status → List ℕ → Type 0
+abbrev pub Answers : Request → List Heard → List ℕ → Status → List ℕ → Type 0
 Answers q = Makes q.command q.budget
 
 -- the commands that are built
@@ -52,6 +53,8 @@ IsAnswer Done = ⊤
 IsAnswer Refused = ⊤
 IsAnswer NoPlan = ⊤
 IsAnswer Budget = ⊤
+IsAnswer PlanFailed = ⊤
+IsAnswer DeviceFault = ⊤
 IsAnswer PlanRefused = ⊤
 IsAnswer _ = ⊥
 
@@ -63,15 +66,15 @@ Writes result status old new text = ((result ≡ code_of status) × Appends old 
 abbrev pub WritesSuch : (Status → List ℕ → Type 0) → ℕ → Option (List ℕ) → Option (List ℕ) → Type 0
 WritesSuch What result old new = (status : Status) × (text : List ℕ) × What status text × Writes result status old new text
 
--- the input was read, and this is made of it
-pub record IsDue (q : Request) (left left_after : Option (List ℕ)) (status : Status) (text : List ℕ) : Type 0 where
+-- the input was read, and this is made of it, with devices that told this
+pub record IsDue (q : Request) (heard : List Heard) (left left_after : Option (List ℕ)) (status : Status) (text : List ℕ) : Type 0 where
   pub bytes : List ℕ
   pub read : Reads left left_after bytes
-  pub answers : Answers q bytes status text
+  pub answers : Answers q heard bytes status text
 
 -- what is due was written, with its status
-pub record Delivers (q : Request) (result : ℕ) (left left_after taken taken_after : Option (List ℕ)) : Type 0 where
+pub record Delivers (q : Request) (heard : List Heard) (result : ℕ) (left left_after taken taken_after : Option (List ℕ)) : Type 0 where
   pub status : Status
   pub text : List ℕ
-  pub due : IsDue q left left_after status text
+  pub due : IsDue q heard left left_after status text
   pub written : Writes result status taken taken_after text

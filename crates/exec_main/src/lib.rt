@@ -6,8 +6,8 @@ mod streams;
 mod top;
 
 pub use laws::{
-    accepted_missions_are_printed, checked_plans_are_flown, checked_plans_are_told,
-    faulty_plans_are_told_their_faults, first_plans_are_flown, first_plans_are_told,
+    accepted_missions_are_printed, checked_plans_are_told, faulty_plans_are_told_their_faults,
+    first_plans_are_told, missions_alone_are_run, missions_are_run_by_their_plans,
     networks_are_told,
 };
 pub use top::ground;

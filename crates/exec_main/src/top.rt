@@ -1,7 +1,9 @@
-ghost use Rattle.std.specs.Prelude.{◌≡◌, ◌⊎◌, length, IfOk, IsErrOf};
+ghost use Rattle.std.specs.Prelude.{◌≡◌, ◌⊎◌, ℕ, length, IfOk, IsErrOf};
 ghost use Rattle.std.specs.Io.KnownBytes.{Keeps};
 ghost use Rattle.command_line.specs.declared.request.Request.{Request as AnyRequest};
 ghost use Rattle.hs_port.specs.Causes.{Rose};
+ghost use Rattle.simulation_laws.specs.Ended.{RoseAt};
+ghost use Rattle.sim_run.specs.Runs.{told};
 ghost use Rattle.commands.specs.Statuses.{code_of};
 ghost use Rattle.exec_main.specs.Ground.{AsksFor, AsksForNone, IsAnswer, IsBuilt, Makes, IsDue, Writes, Delivers};
 ghost use Rattle.exec_main.specs.Streams.{IsWritten};
@@ -56,8 +58,10 @@ fn answer<D: Device>(
     text: &[u8],
     devices: &mut [D],
 ) -> Result<Outcome, Memory>
-    requires { IsBuilt command }
-    ensures made { IfOk result (λ o. Makes command budget text.now o.status o.text) }
+    requires built { IsBuilt command }
+    requires devices { length devices.old ≡ 16 }
+    ensures same_devices { length devices.new ≡ 16 }
+    ensures made { IfOk result (λ o. Makes command budget (told D.polls D.faults devices.old devices.new) text.now o.status o.text) }
     ensures answered { IfOk result (λ o. IsAnswer o.status) }
 {
     match command {
@@ -76,11 +80,14 @@ fn outcome_of<S: Source, D: Device>(
     source: &mut S,
     devices: &mut [D],
 ) -> Result<Outcome, Stop>
-    ensures due { (q : AnyRequest) → AsksFor words.now q → IfOk result (λ o. IsDue q (S.left source.old) (S.left source.new) o.status o.text) }
+    requires { length devices.old ≡ 16 }
+    ensures same_devices { length devices.new ≡ 16 }
+    ensures due { (q : AnyRequest) → AsksFor words.now q → IfOk result (λ o. IsDue q (told D.polls D.faults devices.old devices.new) (S.left source.old) (S.left source.new) o.status o.text) }
     ensures answered { IfOk result (λ o. IsAnswer o.status) }
     ensures usage { IsErrOf result Stop.Usage → AsksForNone words.now }
     ensures unasked { AsksForNone words.now → IsErrOf result Stop.Usage ⊎ IsErrOf result Stop.Memory }
     ensures read_fault { IsErrOf result Stop.ReadFault → Rose (S.faults source.old) (S.faults source.new) }
+    ensures device_fault { IfOk result (λ o. o.status ≡ Status.DeviceFault → (d : ℕ) × RoseAt (told D.polls D.faults devices.old devices.new) d) }
 {
     let request = asked(alloc, words)?;
     match read_whole(alloc, source) {
@@ -128,19 +135,21 @@ pub fn ground<S: Source, K: Sink, D: Device>(
     devices: &mut [D],
 ) -> u8
     requires { length devices.old ≡ 16 }
+    ensures same_devices { length devices.new ≡ 16 }
 
     // Words that ask for no command are answered by the usage line, which is written whole, or a front of it with a fault.
     ensures usage { result ≡ code_of Status.Usage → AsksForNone words.now }
     ensures usage_line { result ≡ code_of Status.Usage → IsWritten (K.taken sink.old) (K.taken sink.new) (K.faults sink.old) (K.faults sink.new) USAGE_LINE.now }
     ensures unasked { AsksForNone words.now → (result ≡ code_of Status.Usage) ⊎ (result ≡ code_of Status.NoMemory) }
 
-    // What a command makes of the input is written, unless the input can't be read or memory is wanting.
-    ensures delivered { (q : AnyRequest) → AsksFor words.now q → ((result ≡ code_of Status.ReadFault) ⊎ (result ≡ code_of Status.NoMemory)) ⊎ Delivers q result (S.left source.old) (S.left source.new) (K.taken sink.old) (K.taken sink.new) }
+    // What a command makes of the input, with what the devices told, is written, unless the input can't be read or memory is wanting.
+    ensures delivered { (q : AnyRequest) → AsksFor words.now q → ((result ≡ code_of Status.ReadFault) ⊎ (result ≡ code_of Status.NoMemory)) ⊎ Delivers q (told D.polls D.faults devices.old devices.new) result (S.left source.old) (S.left source.new) (K.taken sink.old) (K.taken sink.new) }
     ensures silent { (result ≡ code_of Status.ReadFault) ⊎ (result ≡ code_of Status.NoMemory) → Keeps (K.taken sink.old) (K.taken sink.new) }
 
     // A fault is answered only where one was counted.
     ensures read_fault { result ≡ code_of Status.ReadFault → Rose (S.faults source.old) (S.faults source.new) }
     ensures write_fault { result ≡ code_of Status.WriteFault → Rose (K.faults sink.old) (K.faults sink.new) }
+    ensures device_fault { result ≡ code_of Status.DeviceFault → (d : ℕ) × RoseAt (told D.polls D.faults devices.old devices.new) d }
 {
     match outcome_of(alloc, words, source, devices) {
         Ok(outcome) => deliver(sink, &outcome).code(),

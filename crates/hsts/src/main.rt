@@ -5,20 +5,21 @@
 ghost use Rattle.std.specs.Prelude.{◌≡◌, vec_len, IfOk};
 
 use commands::Status;
+use device_script::Told;
 use exec_main::ground;
-use hs_base::{List, Memory, VARIABLES};
-use hs_port::{MemDevice, StdSink, StdSource};
+use hs_base::{Memory, VARIABLES};
+use hs_port::{StdSink, StdSource};
 use std::alloc::Global;
 use std::process::ExitCode;
 use std::{env, io};
 
-/// Devices that say nothing, one for each variable that a mission may have.
-fn quiet_devices(alloc: Global) -> Result<Vec<MemDevice>, Memory>
+/// Simulated devices, one for each variable that a mission may have.
+fn simulated_devices(alloc: Global) -> Result<Vec<Told>, Memory>
     ensures { IfOk result (λ devices. vec_len devices ≡ 16) }
 {
     let mut devices = Vec::with_capacity(alloc, VARIABLES)?;
     for made in 0..VARIABLES {
-        devices.push(MemDevice::begin(alloc, 0, List::new(alloc), List::new(alloc))?)?;
+        devices.push(Told::new())?;
     }
     Ok(devices)
 }
@@ -33,7 +34,7 @@ fn main(rt: HostRuntime) -> ExitCode {
     let Ok(words) = words else {
         return ExitCode::from(Status::NoMemory.code());
     };
-    let Ok(mut devices) = quiet_devices(alloc) else {
+    let Ok(mut devices) = simulated_devices(alloc) else {
         return ExitCode::from(Status::NoMemory.code());
     };
     let mut source = StdSource::new(rt.reader());
