@@ -1,6 +1,6 @@
 use commands::{Outcome, Status, check, net, plan, print, sim};
-use hs_base::{List, Memory};
-use hs_port::MemDevice;
+use device_script::Told;
+use hs_base::{Memory, VARIABLES};
 use std::alloc::{AllocError, Global};
 use std::test::Fail;
 
@@ -30,10 +30,10 @@ const UNKNOWN: &[u8] =
 const TWO: &[u8] =
     b"hsts 1 var a value p [2,4] then q value q [1,inf] begin p horizon 10 end hsts plan 1 extension 1 since 0 token a p token a q close extension 2 since 0 close end";
 
-/// A mission with a device, and one whose limits are exchanged.
-const DEVICE: &[u8] =
-    b"hsts 1 var a value p [2,4] by device answers 3 done begin p horizon 3 end hsts plan 1 extension 1 since 0 token a p close end";
+/// A mission of two horizons.
+const TWO_HORIZONS: &[u8] = b"hsts 1 var a value p [1,inf] begin p horizon 10 horizon 20 end";
 
+/// One whose limits are exchanged.
 const EXCHANGED: &[u8] = b"hsts 1 var a value p [4,2] begin p horizon 10 end";
 
 const BROKEN_OFF: &[u8] = b"hsts 1 var";
@@ -64,10 +64,15 @@ fn says(outcome: Result<Outcome, Memory>, status: Status, text: &[u8]) -> bool {
     }
 }
 
-/// The outcome of `sim` with one device.
+/// The outcome of `sim` with sixteen devices that say nothing.
 fn fly(alloc: Global, text: &[u8]) -> Result<Outcome, Memory> {
     let mut devices = Vec::new(alloc);
-    devices.push(MemDevice::begin(alloc, 0, List::new(alloc), List::new(alloc))?)?;
+    for _ in 0..VARIABLES {
+        devices.push(Told::new())?;
+    }
+    if devices.len() != 16 {
+        return Err(Memory);
+    }
     sim(alloc, text, BUDGET, devices.as_mut_slice())
 }
 
@@ -136,7 +141,7 @@ fn flies_plain_missions(rt: HostRuntime) -> Result<(), Fail> {
 #[test]
 fn refuses_to_fly(rt: HostRuntime) -> Result<(), Fail> {
     let alloc = rt.alloc();
-    assert!(rt; says(fly(alloc, DEVICE), Status::Refused, b"refused 0\n"));
+    assert!(rt; says(fly(alloc, TWO_HORIZONS), Status::Refused, b"refused 0\n"));
     let off = b"refused 3 at 10\n";
     assert!(rt; says(fly(alloc, BROKEN_OFF), Status::Refused, off));
     let base = b"extension 2 fault 1 base 2 0\n";

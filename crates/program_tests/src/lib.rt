@@ -6,4 +6,6 @@ mod answers;
 #[cfg(test)]
 mod calls;
 #[cfg(test)]
+mod devices;
+#[cfg(test)]
 mod outside;

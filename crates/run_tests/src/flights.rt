@@ -1,11 +1,12 @@
 ghost use Rattle.std.specs.Prelude.{◌≡◌, length, IfOk};
 ghost use Rattle.base_laws.specs.Samples.{smallest};
 
-use hs_base::{Fault, PointId};
+use hs_base::{Fault, List, Memory, PointId};
 use hs_machine::{Deed, Entry};
+use hs_port::MemDevice;
 use plan_check::{CheckedPlan, check};
 use sample_missions::{smallest, smallest_extension};
-use sim_run::fly;
+use sim_run::sim;
 use std::alloc::Global;
 use std::test::Fail;
 
@@ -20,7 +21,7 @@ pub(crate) fn planned(alloc: Global) -> Result<CheckedPlan, Fault>
 }
 
 /// Whether a plan was handed over first, and then just these deeds were done.
-fn flew(history: &[Entry], deeds: &[Deed]) -> bool {
+pub(crate) fn flew(history: &[Entry], deeds: &[Deed]) -> bool {
     if history.len() != deeds.len() + 1 {
         return false;
     }
@@ -32,11 +33,30 @@ fn flew(history: &[Entry], deeds: &[Deed]) -> bool {
     matches!(history[0].deed, Deed::Handover { .. })
 }
 
+/// Devices that are never asked.
+fn idle_devices(alloc: Global) -> Result<Vec<MemDevice>, Memory> {
+    let mut devices = Vec::new(alloc);
+    for _ in 0..16 {
+        devices.push(MemDevice::begin(alloc, 0, List::new(alloc), List::new(alloc))?)?;
+    }
+    Ok(devices)
+}
+
 /// Whether its flight has just these deeds behind the handover.
 fn is_flown(alloc: Global, deeds: &[Deed]) -> Result<bool, Fault> {
-    let plan = planned(alloc)?;
-    let exec = fly(alloc, plan)?;
-    Ok(flew(exec.history(), deeds))
+    let mission = smallest(alloc)?;
+    let mut devices = idle_devices(alloc)?;
+    if devices.len() != 16 {
+        return Ok(false);
+    }
+    let flown = sim(
+        alloc,
+        Some(planned(alloc)?),
+        &mission,
+        devices.as_mut_slice(),
+        1,
+    )?;
+    Ok(flew(flown.exec.history(), deeds))
 }
 
 /// The first token ends at its least, at 2, and the last one not before the horizon.

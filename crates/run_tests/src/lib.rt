@@ -1,6 +1,8 @@
-//! Tests of handovers, the executive, its runs and their logs.
+//! Tests of scripts, handovers, the executive, its runs, their devices, logs and reasons.
 #![tactic(auto)]
 
+#[cfg(test)]
+mod devices;
 #[cfg(test)]
 mod executives;
 #[cfg(test)]
@@ -9,3 +11,7 @@ mod flights;
 mod handovers;
 #[cfg(test)]
 mod logs;
+#[cfg(test)]
+mod reasons;
+#[cfg(test)]
+mod scripts;
