@@ -3,3 +3,4 @@ pub mod LogSizeLemmas
 pub mod EntryLemmas
 pub mod NotedLemmas
 pub mod LogMeaningLemmas
+pub mod StopLemmas

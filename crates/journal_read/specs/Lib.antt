@@ -1,3 +1,4 @@
 pub mod LogReading
 pub mod LogSpelling
 pub mod NotedLogs
+pub mod Stops

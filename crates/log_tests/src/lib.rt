@@ -5,3 +5,5 @@
 mod entries;
 #[cfg(test)]
 mod refusals;
+#[cfg(test)]
+mod stops;
