@@ -4,6 +4,8 @@
 #[cfg(test)]
 mod acceptances;
 #[cfg(test)]
+mod drills;
+#[cfg(test)]
 mod lines;
 #[cfg(test)]
 mod plans;
